@@ -1,0 +1,42 @@
+//! An independent judge of document 01: the non-moving Schism collector
+//! with mutators on x86-TSO.
+//!
+//! It is the second opinion for a proved judge written elsewhere and shares
+//! nothing with it. It is written from the rules document alone.
+//!
+//! [`judge`] runs a whole log. [`step`] answers one choice on any state, also
+//! a malformed one. [`verdict`] weighs a state. [`Generator`] makes logs and
+//! [`Coverage`] says what they reached.
+
+mod collector;
+mod coverage;
+mod events;
+mod generate;
+mod header;
+mod log;
+mod malformed;
+mod marking;
+mod memory;
+mod mutator;
+mod mood;
+pub mod number;
+mod place;
+mod random;
+mod state;
+mod step;
+mod verdict;
+
+pub use coverage::Coverage;
+pub use events::Event;
+pub use generate::Generator;
+pub use header::{parse_header, Fault, Header};
+pub use log::{judge, judge_observed, line, Outcome, LOG_LIMIT, RECORD_LENGTH};
+pub use malformed::malformed;
+pub use place::{CollectorPlace, MarkStage, MutatorPlace, RoundStage};
+pub use random::Random;
+pub use state::{
+    bit, members, set_of, Cell, Collector, HandshakePhase, HandshakeType, Mutator, Phase, Process,
+    State, Store, System, BUFFER_ROOM, CELLS, MUTATORS,
+};
+pub use step::{apply, step, Choice};
+pub use verdict::verdict;

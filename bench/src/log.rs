@@ -1,0 +1,156 @@
+//! "The log": a header, then records of 8 bytes.
+
+use crate::header::{parse_header, Fault};
+use crate::number::{
+    STOP_CHECK, STOP_END, STOP_HEADER, STOP_SHORT, TAKEN, VERDICT_MALFORMED,
+};
+use crate::state::State;
+use crate::step::{apply, Choice};
+use crate::verdict::verdict;
+
+/// "A log is at most 65,536 bytes, else stop 12."
+pub const LOG_LIMIT: usize = 65_536;
+/// "Records of 8 bytes".
+pub const RECORD_LENGTH: usize = 8;
+
+/// What the judge says of a log.
+#[derive(Clone, Copy, Debug, PartialEq, Eq)]
+pub struct Outcome {
+    /// "The count is of the records taken before the stop".
+    pub steps: u32,
+    pub stop: u8,
+    /// "the verdict is that of the state then, 4 on stop 12".
+    pub verdict: u8,
+}
+
+/// The line the program writes.
+pub fn line(outcome: Outcome) -> String {
+    let Outcome {
+        steps,
+        stop,
+        verdict,
+    } = outcome;
+    format!("steps {steps} stop {stop} verdict {verdict}\n")
+}
+
+impl Choice {
+    /// The record's bytes, with "a 16-bit check equal to the sum of those six
+    /// plus 1".
+    pub fn record(self) -> [u8; RECORD_LENGTH] {
+        let [low, high] = self.check().to_le_bytes();
+        let [process, kind, operation, x, f, y] = self.bytes();
+        [process, kind, operation, x, f, y, low, high]
+    }
+
+    fn bytes(self) -> [u8; 6] {
+        [
+            self.process,
+            self.kind,
+            self.operation,
+            self.x,
+            self.f,
+            self.y,
+        ]
+    }
+
+    fn check(self) -> u16 {
+        self.bytes().into_iter().map(u16::from).sum::<u16>() + 1
+    }
+
+    /// The choice of a record, `None` if the check is wrong.
+    fn from_record(record: [u8; RECORD_LENGTH]) -> Option<Choice> {
+        let [process, kind, operation, x, f, y, low, high] = record;
+        let choice = Choice {
+            process,
+            kind,
+            operation,
+            x,
+            f,
+            y,
+        };
+        (choice.check() == u16::from_le_bytes([low, high])).then_some(choice)
+    }
+}
+
+/// Runs a log. A state reached from an opening is well formed, so no record
+/// is tested for that, and the one state is changed in place.
+pub fn judge(log: &[u8]) -> Outcome {
+    run(log, apply).0
+}
+
+/// Runs a log and shows each record that has a right check to the observer:
+/// state before, choice, number, state after. Also hands back the final
+/// state, or the header's fault.
+pub fn judge_observed(
+    log: &[u8],
+    mut observer: impl FnMut(&State, Choice, u8, &State),
+) -> (Outcome, Result<State, Fault>) {
+    run(log, |state, choice| {
+        let before = state.clone();
+        let number = apply(state, choice);
+        observer(&before, choice, number, state);
+        number
+    })
+}
+
+/// The log's opening and its records, if the header keeps the rule.
+fn open(log: &[u8]) -> Result<(State, &[u8]), Fault> {
+    if log.len() > LOG_LIMIT {
+        return Err(Fault::LogTooLong);
+    }
+    parse_header(log)
+}
+
+/// Runs a log with the given way of taking a step.
+fn run(
+    log: &[u8],
+    take: impl FnMut(&mut State, Choice) -> u8,
+) -> (Outcome, Result<State, Fault>) {
+    match open(log) {
+        Err(fault) => {
+            let outcome = Outcome {
+                steps: 0,
+                stop: STOP_HEADER,
+                verdict: VERDICT_MALFORMED,
+            };
+            (outcome, Err(fault))
+        }
+        Ok((mut state, records)) => {
+            let (steps, stop) = run_records(&mut state, records, take);
+            let (verdict, _) = verdict(&state);
+            let outcome = Outcome {
+                steps,
+                stop,
+                verdict,
+            };
+            (outcome, Ok(state))
+        }
+    }
+}
+
+/// Takes the records in turn: how many were taken, and what stopped them.
+fn run_records(
+    state: &mut State,
+    mut records: &[u8],
+    mut take: impl FnMut(&mut State, Choice) -> u8,
+) -> (u32, u8) {
+    let mut steps = 0;
+    while let Some((record, rest)) = records.split_first_chunk() {
+        let Some(choice) = Choice::from_record(*record) else {
+            return (steps, STOP_CHECK);
+        };
+        let number = take(state, choice);
+        if number != TAKEN {
+            return (steps, number);
+        }
+        steps += 1;
+        records = rest;
+    }
+    // "Fewer than 8 bytes left: stop 14. None left: stop 0."
+    let stop = if records.is_empty() {
+        STOP_END
+    } else {
+        STOP_SHORT
+    };
+    (steps, stop)
+}

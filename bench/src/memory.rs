@@ -1,0 +1,170 @@
+//! "Memory steps (x86-TSO)". Each function makes its checks in number order
+//! and changes nothing when it refuses.
+
+use crate::number::{
+    BLOCKED, BUFFER_FULL, FREE_CELL, NOTHING_PENDING, OCCUPIED, STORES_PENDING,
+};
+use crate::state::{bit, Cell, Phase, State, Store, BUFFER_ROOM};
+
+impl State {
+    /// "A process is blocked while another holds the lock."
+    pub fn blocked(&self, p: u8) -> bool {
+        self.lock.is_some_and(|holder| holder != p)
+    }
+
+    fn unblocked(&self, p: u8) -> Result<(), u8> {
+        if self.blocked(p) {
+            return Err(BLOCKED);
+        }
+        Ok(())
+    }
+
+    fn occupied(&self, r: u8) -> Result<(), u8> {
+        if !self.cell(r).occupied {
+            return Err(FREE_CELL);
+        }
+        Ok(())
+    }
+
+    fn buffer_empty(&self, p: u8) -> Result<(), u8> {
+        if !self.own(p).buffer.is_empty() {
+            return Err(STORES_PENDING);
+        }
+        Ok(())
+    }
+
+    /// "A read gives the newest matching store of the reader's own buffer",
+    /// if there is one.
+    fn newest<T>(&self, p: u8, matching: impl Fn(&Store) -> Option<T>) -> Option<T> {
+        self.own(p).buffer.iter().rev().find_map(matching)
+    }
+
+    /// The mark of r as process p sees it.
+    fn seen_mark(&self, p: u8, r: u8) -> bool {
+        self.newest(p, |store| match *store {
+            Store::Mark { cell, mark } if cell == r => Some(mark),
+            _ => None,
+        })
+        .unwrap_or(self.cell(r).mark)
+    }
+
+    /// A look at r's mark.
+    pub fn look(&self, p: u8, r: u8) -> Result<bool, u8> {
+        self.unblocked(p)?;
+        self.occupied(r)?;
+        Ok(self.seen_mark(p, r))
+    }
+
+    /// The sweep's look, which refusal 11 excepts: `None` for a free cell.
+    pub fn sweep_look(&self, p: u8, r: u8) -> Result<Option<bool>, u8> {
+        self.unblocked(p)?;
+        Ok(self.cell(r).occupied.then(|| self.seen_mark(p, r)))
+    }
+
+    /// A read of field f of r.
+    pub fn read_field(&self, p: u8, r: u8, f: u8) -> Result<u8, u8> {
+        self.unblocked(p)?;
+        self.occupied(r)?;
+        let pending = self.newest(p, |store| match *store {
+            Store::Field { cell, field, value } if cell == r && field == f => Some(value),
+            _ => None,
+        });
+        Ok(pending.unwrap_or(self.cell(r).fields[usize::from(f)]))
+    }
+
+    /// A read of fM.
+    pub fn read_mark_sense(&self, p: u8) -> Result<bool, u8> {
+        self.unblocked(p)?;
+        let pending = self.newest(p, |store| match *store {
+            Store::MarkSense(sense) => Some(sense),
+            _ => None,
+        });
+        Ok(pending.unwrap_or(self.mark_sense))
+    }
+
+    /// A read of the phase.
+    pub fn read_phase(&self, p: u8) -> Result<Phase, u8> {
+        self.unblocked(p)?;
+        let pending = self.newest(p, |store| match *store {
+            Store::Phase(phase) => Some(phase),
+            _ => None,
+        });
+        Ok(pending.unwrap_or(self.phase))
+    }
+
+    /// "A write appends." It is never blocked.
+    pub fn write(&mut self, p: u8, store: Store) -> Result<(), u8> {
+        let buffer = &mut self.own_mut(p).buffer;
+        if buffer.len() >= BUFFER_ROOM {
+            return Err(BUFFER_FULL);
+        }
+        buffer.push_back(store);
+        Ok(())
+    }
+
+    /// "A fence needs one's own buffer empty."
+    pub fn fence(&self, p: u8) -> Result<(), u8> {
+        self.buffer_empty(p)
+    }
+
+    /// "Lock needs the lock free."
+    pub fn take_lock(&mut self, p: u8) -> Result<(), u8> {
+        if self.lock.is_some() {
+            return Err(BLOCKED);
+        }
+        self.lock = Some(p);
+        Ok(())
+    }
+
+    /// "Unlock needs one's own buffer empty and leaves the lock with nobody."
+    pub fn release_lock(&mut self, p: u8) -> Result<(), u8> {
+        self.buffer_empty(p)?;
+        self.lock = None;
+        Ok(())
+    }
+
+    /// "A commit applies one's oldest store, unblocked."
+    pub fn commit(&mut self, p: u8) -> Result<(), u8> {
+        let oldest = self.own(p).buffer.front().copied();
+        let store = oldest.ok_or(NOTHING_PENDING)?;
+        self.unblocked(p)?;
+        match store {
+            Store::Mark { cell, mark } => {
+                self.occupied(cell)?;
+                self.cell_mut(cell).mark = mark;
+            }
+            Store::Field { cell, field, value } => {
+                self.occupied(cell)?;
+                self.cell_mut(cell).fields[usize::from(field)] = value;
+            }
+            Store::MarkSense(sense) => self.mark_sense = sense,
+            Store::AllocationSense(sense) => self.allocation_sense = sense,
+            Store::Phase(phase) => self.phase = phase,
+        }
+        self.own_mut(p).buffer.pop_front();
+        Ok(())
+    }
+
+    /// "allocate free cell x (mark = memory's fA, null fields, x becomes a
+    /// root)".
+    pub fn allocate(&mut self, p: u8, x: u8) -> Result<(), u8> {
+        self.unblocked(p)?;
+        if self.cell(x).occupied {
+            return Err(OCCUPIED);
+        }
+        *self.cell_mut(x) = Cell {
+            occupied: true,
+            mark: self.allocation_sense,
+            fields: [0, 0],
+        };
+        self.mutator_mut(p).roots |= bit(x);
+        Ok(())
+    }
+
+    /// Freeing acts on memory at once. A free cell's mark and fields are 0.
+    pub fn free(&mut self, p: u8, x: u8) -> Result<(), u8> {
+        self.unblocked(p)?;
+        *self.cell_mut(x) = Cell::default();
+        Ok(())
+    }
+}

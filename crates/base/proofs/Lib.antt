@@ -1,0 +1,4 @@
+pub mod Picks
+pub mod Everies
+pub mod Lists
+pub mod Answers
