@@ -139,12 +139,7 @@ fn flip_sense(state: &mut State, c: Choice) -> Result<(), u8> {
 }
 
 /// Rows 4, 5, 9 and 11: "write phase".
-fn write_phase(
-    state: &mut State,
-    c: Choice,
-    phase: Phase,
-    next: CollectorPlace,
-) -> Result<(), u8> {
+fn write_phase(state: &mut State, c: Choice, phase: Phase, next: CollectorPlace) -> Result<(), u8> {
     c.bare()?;
     state.write(COLLECTOR, Store::Phase(phase))?;
     state.collector.place = next;

@@ -113,8 +113,14 @@ impl Header {
     fn content_fault(&self) -> Option<Fault> {
         let occupied = self.occupied();
         let all = set_of(self.cells.len() as u8);
-        let cells = self.cells.iter().map(|&cell| cell_fault(cell, all, occupied));
-        let roots = self.roots.iter().map(|&set| roots_fault(set, all, occupied));
+        let cells = self
+            .cells
+            .iter()
+            .map(|&cell| cell_fault(cell, all, occupied));
+        let roots = self
+            .roots
+            .iter()
+            .map(|&set| roots_fault(set, all, occupied));
         cells.chain(roots).flatten().next()
     }
 }
@@ -125,7 +131,9 @@ fn cell_fault([occupied_byte, first, second]: [u8; 3], all: u32, occupied: u32) 
     match occupied_byte {
         0 if fields == [0, 0] => None,
         0 => Some(Fault::FreeCellWithField),
-        1 => fields.into_iter().find_map(|field| field_fault(field, all, occupied)),
+        1 => fields
+            .into_iter()
+            .find_map(|field| field_fault(field, all, occupied)),
         _ => Some(Fault::OccupiedByte),
     }
 }

@@ -1,9 +1,7 @@
 //! "The log": a header, then records of 8 bytes.
 
 use crate::header::{parse_header, Fault};
-use crate::number::{
-    STOP_CHECK, STOP_END, STOP_HEADER, STOP_SHORT, TAKEN, VERDICT_MALFORMED,
-};
+use crate::number::{STOP_CHECK, STOP_END, STOP_HEADER, STOP_SHORT, TAKEN, VERDICT_MALFORMED};
 use crate::state::State;
 use crate::step::{apply, Choice};
 use crate::verdict::verdict;
@@ -102,10 +100,7 @@ fn open(log: &[u8]) -> Result<(State, &[u8]), Fault> {
 }
 
 /// Runs a log with the given way of taking a step.
-fn run(
-    log: &[u8],
-    take: impl FnMut(&mut State, Choice) -> u8,
-) -> (Outcome, Result<State, Fault>) {
+fn run(log: &[u8], take: impl FnMut(&mut State, Choice) -> u8) -> (Outcome, Result<State, Fault>) {
     match open(log) {
         Err(fault) => {
             let outcome = Outcome {

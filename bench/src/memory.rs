@@ -1,9 +1,7 @@
 //! "Memory steps (x86-TSO)". Each function makes its checks in number order
 //! and changes nothing when it refuses.
 
-use crate::number::{
-    BLOCKED, BUFFER_FULL, FREE_CELL, NOTHING_PENDING, OCCUPIED, STORES_PENDING,
-};
+use crate::number::{BLOCKED, BUFFER_FULL, FREE_CELL, NOTHING_PENDING, OCCUPIED, STORES_PENDING};
 use crate::state::{bit, Cell, Phase, State, Store, BUFFER_ROOM};
 
 impl State {

@@ -1,7 +1,7 @@
 //! "What a state holds". Plain numbers stand for cells, processes and sets,
 //! so that a state built by hand may also be malformed.
 
-use crate::place::{CollectorPlace, MutatorPlace};
+use crate::place::{CollectorPlace, MarkStage, MutatorPlace};
 use std::collections::VecDeque;
 
 /// "Cells 1..N, N from 1 to 32".
@@ -229,6 +229,14 @@ impl State {
     pub fn processes(&self) -> impl Iterator<Item = &Process> {
         let mutators = self.live_mutators().iter().map(|mutator| &mutator.own);
         std::iter::once(&self.collector.own).chain(mutators)
+    }
+
+    /// The step of a mark that process p is at, if it is at one.
+    pub fn mark_stage(&self, p: u8) -> Option<MarkStage> {
+        match p {
+            0 => self.collector.place.mark_stage(),
+            _ => self.mutator(p).place.mark_stage(),
+        }
     }
 
     /// The cell process p is marking, 0 if none. In an answer no root is

@@ -71,9 +71,9 @@ fn white_cells(state: &State) -> u32 {
 
 /// "Grey: on any work list or being greyed."
 fn grey_cells(state: &State) -> u32 {
-    state
-        .processes()
-        .fold(state.system.list, |grey, own| grey | own.list | bit(own.greying))
+    state.processes().fold(state.system.list, |grey, own| {
+        grey | own.list | bit(own.greying)
+    })
 }
 
 /// "3: the handshake table is broken."

@@ -1,0 +1,34 @@
+//! Prints the coverage table of the generator as Markdown.
+//!
+//! `coverage [SEED] [LOGS]`
+
+use claysaucer_bench::{Coverage, Generator};
+use std::process::ExitCode;
+
+const SEED: u64 = 1;
+const LOGS: u64 = 20_000;
+
+fn main() -> ExitCode {
+    let mut arguments = std::env::args().skip(1);
+    let mut number = |default| match arguments.next() {
+        Some(text) => text.parse().ok(),
+        None => Some(default),
+    };
+    let (Some(seed), Some(logs)) = (number(SEED), number(LOGS)) else {
+        eprintln!("usage: coverage [SEED] [LOGS]");
+        return ExitCode::FAILURE;
+    };
+    let mut generator = Generator::new(seed);
+    let mut coverage = Coverage::new();
+    for _ in 0..logs {
+        coverage.add(&generator.next_log());
+    }
+    print!("{}", coverage.markdown());
+    for name in coverage.missing() {
+        eprintln!("missing: {name}");
+    }
+    for log in &coverage.alarms {
+        eprintln!("against the theorem: {log:02X?}");
+    }
+    ExitCode::SUCCESS
+}

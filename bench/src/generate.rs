@@ -1,0 +1,217 @@
+//! A seeded generator of logs, guided by the judge so that runs go deep.
+
+use crate::header::{parse_header, Header};
+use crate::log::LOG_LIMIT;
+use crate::mood::Mood;
+use crate::number::TAKEN;
+use crate::place::CollectorPlace;
+use crate::random::Random;
+use crate::state::State;
+use crate::step::{apply, Choice};
+
+/// How often a walk may be refused in a row before it ends.
+const PATIENCE: u32 = 2_000;
+
+/// Makes logs, long and short, valid and damaged. The same seed gives the
+/// same logs.
+#[derive(Clone, Debug)]
+pub struct Generator {
+    pub(crate) random: Random,
+}
+
+/// A log being written, with the state its records have reached.
+pub(crate) struct Walk {
+    pub state: State,
+    pub log: Vec<u8>,
+}
+
+impl Walk {
+    /// Takes a choice. A refused one is not written.
+    pub fn take(&mut self, choice: Choice) -> u8 {
+        let number = apply(&mut self.state, choice);
+        if number == TAKEN {
+            self.log.extend(choice.record());
+        }
+        number
+    }
+}
+
+impl Generator {
+    pub fn new(seed: u64) -> Generator {
+        Generator {
+            random: Random::new(seed),
+        }
+    }
+
+    /// The next log of the mix.
+    pub fn next_log(&mut self) -> Vec<u8> {
+        match self.random.below(1000) {
+            0..=1 => self.sized(),
+            2..=59 => self.soup(),
+            60..=159 => self.random_fault(),
+            160..=239 => self.cut(),
+            240..=299 => self.wrong_check(),
+            300..=599 => self.refused(),
+            _ => self.plain(),
+        }
+    }
+
+    /// A log whose records are all taken.
+    fn plain(&mut self) -> Vec<u8> {
+        let (length, mood) = (self.length(), self.mood());
+        let mut walk = self.open();
+        self.approach(&mut walk);
+        self.walk(&mut walk, &mood, length);
+        walk.log
+    }
+
+    /// A log that ends anywhere.
+    fn cut(&mut self) -> Vec<u8> {
+        let mut log = self.plain();
+        let limit = match self.random.percent(40) {
+            true => log.len().min(60),
+            false => log.len(),
+        };
+        log.truncate(self.random.below(limit as u32 + 1) as usize);
+        log
+    }
+
+    /// A log with one byte of a record changed, which breaks its check.
+    fn wrong_check(&mut self) -> Vec<u8> {
+        let mut walk = self.open();
+        let header = walk.log.len();
+        let (length, mood) = (self.length() + 1, self.mood());
+        self.walk(&mut walk, &mood, length);
+        let mut log = walk.log;
+        let damaged = self.random.within(header as u32, log.len() as u32 - 1);
+        log[damaged as usize] ^= self.random.within(1, 255) as u8;
+        log
+    }
+
+    /// Bytes without sense, alone or after a header, or records without sense
+    /// and with a right check.
+    fn soup(&mut self) -> Vec<u8> {
+        let mut log = match self.random.below(3) {
+            0 => Vec::new(),
+            _ => self.header().bytes(),
+        };
+        let length = self.random.below(120);
+        if log.is_empty() || self.random.percent(20) {
+            log.extend((0..length).map(|_| self.random.byte()));
+        } else {
+            log.extend((0..length).flat_map(|_| self.senseless().record()));
+        }
+        log
+    }
+
+    /// A choice of mostly small numbers.
+    pub(crate) fn senseless(&mut self) -> Choice {
+        let mut small = |limit| match self.random.percent(1) {
+            true => self.random.byte(),
+            false => self.random.below(limit) as u8,
+        };
+        Choice {
+            process: small(4),
+            kind: small(2),
+            operation: small(6),
+            x: small(4),
+            f: small(2),
+            y: small(3),
+        }
+    }
+
+    /// A walk's length: mostly short.
+    pub(crate) fn length(&mut self) -> u32 {
+        match self.random.below(100) {
+            0..=64 => self.random.below(40),
+            65..=89 => self.random.within(40, 200),
+            90..=97 => self.random.within(200, 800),
+            _ => self.random.within(800, 3_000),
+        }
+    }
+
+    pub(crate) fn mood(&mut self) -> Mood {
+        match self.random.percent(10) {
+            true => Mood::hoarding(&mut self.random),
+            false => Mood::random(&mut self.random),
+        }
+    }
+
+    /// A new walk at a random opening.
+    pub(crate) fn open(&mut self) -> Walk {
+        let header = self.header();
+        open_with(&header)
+    }
+
+    /// In some walks, brings the collector to a place drawn by lot.
+    pub(crate) fn approach(&mut self, walk: &mut Walk) {
+        if self.random.percent(30) {
+            let place = self.random.pick(&CollectorPlace::all());
+            self.approach_to(walk, place);
+        }
+    }
+
+    pub(crate) fn approach_to(&mut self, walk: &mut Walk, place: CollectorPlace) {
+        let mood = Mood::brisk();
+        for _ in 0..400 {
+            if walk.state.collector.place == place || !self.advance(walk, &mood) {
+                return;
+            }
+        }
+    }
+
+    /// Takes so many steps, fewer if nothing is taken for long.
+    pub(crate) fn walk(&mut self, walk: &mut Walk, mood: &Mood, steps: u32) {
+        for _ in 0..steps {
+            if !self.advance(walk, mood) {
+                return;
+            }
+        }
+    }
+
+    /// Takes one step, if patience allows.
+    pub(crate) fn advance(&mut self, walk: &mut Walk, mood: &Mood) -> bool {
+        (0..PATIENCE).any(|_| {
+            let choice = mood.propose(&walk.state, &mut self.random);
+            walk.take(choice) == TAKEN
+        })
+    }
+}
+
+/// The walk that starts with this header, which keeps the rule.
+pub(crate) fn open_with(header: &Header) -> Walk {
+    let log = header.bytes();
+    let state = match parse_header(&log) {
+        Ok((state, _)) => state,
+        Err(fault) => unreachable!("the generator's own header breaks {fault:?}"),
+    };
+    Walk { state, log }
+}
+
+/// Logs of a named length.
+impl Generator {
+    fn sized(&mut self) -> Vec<u8> {
+        let length = self
+            .random
+            .within(LOG_LIMIT as u32 - 1, LOG_LIMIT as u32 + 1);
+        self.log_of(length as usize)
+    }
+
+    /// A log of about 65,536 bytes, none more nor less than asked. The header
+    /// is such that exactly 65,536 bytes end with a whole record.
+    pub fn log_of(&mut self, length: usize) -> Vec<u8> {
+        let (n, m) = self.random.pick(&[(3, 2), (3, 4), (7, 1), (7, 3), (11, 2)]);
+        let header = self.header_of(n, m);
+        let mut walk = open_with(&header);
+        while walk.log.len() < length {
+            let mood = Mood::random(&mut self.random);
+            for _ in 0..200 {
+                if !self.advance(&mut walk, &mood) {
+                    break;
+                }
+            }
+        }
+        walk.log.truncate(length);
+        walk.log
+    }
+}

@@ -1,0 +1,9 @@
+pub mod Bools
+pub mod Bits
+pub mod Members
+pub mod Subsets
+pub mod Algebra
+pub mod Belows
+pub mod Firsts
+pub mod Counts
+pub mod Compute
