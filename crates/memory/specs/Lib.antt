@@ -1,0 +1,3 @@
+pub mod Memories
+pub mod Looks
+pub mod Steps
