@@ -80,7 +80,9 @@ impl Generator {
     fn wrong_check(&mut self) -> Vec<u8> {
         let mut walk = self.open();
         let header = walk.log.len();
-        let (length, mood) = (self.length() + 1, self.mood());
+        // The collector's first fence is always taken.
+        walk.take(Choice::own(0));
+        let (length, mood) = (self.length(), self.mood());
         self.walk(&mut walk, &mood, length);
         let mut log = walk.log;
         let damaged = self.random.within(header as u32, log.len() as u32 - 1);
@@ -105,7 +107,7 @@ impl Generator {
     }
 
     /// A choice of mostly small numbers.
-    pub(crate) fn senseless(&mut self) -> Choice {
+    fn senseless(&mut self) -> Choice {
         let mut small = |limit| match self.random.percent(1) {
             true => self.random.byte(),
             false => self.random.below(limit) as u8,
@@ -197,8 +199,8 @@ impl Generator {
         self.log_of(length as usize)
     }
 
-    /// A log of about 65,536 bytes, none more nor less than asked. The header
-    /// is such that exactly 65,536 bytes end with a whole record.
+    /// A log of exactly the length asked, every record of it taken. The header
+    /// is such that 65,536 bytes end with a whole record.
     pub fn log_of(&mut self, length: usize) -> Vec<u8> {
         let (n, m) = self.random.pick(&[(3, 2), (3, 4), (7, 1), (7, 3), (11, 2)]);
         let header = self.header_of(n, m);

@@ -30,5 +30,8 @@ fn main() -> ExitCode {
     for log in &coverage.alarms {
         eprintln!("against the theorem: {log:02X?}");
     }
-    ExitCode::SUCCESS
+    match coverage.alarms.is_empty() {
+        true => ExitCode::SUCCESS,
+        false => ExitCode::FAILURE,
+    }
 }

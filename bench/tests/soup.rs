@@ -1,0 +1,65 @@
+//! Inputs without sense never panic.
+
+mod common;
+
+use claysaucer_bench::{judge, Choice, Outcome, Random};
+use common::random_choice;
+
+/// A million inputs, a third each: bytes, bytes after a header, records with
+/// a right check after a header.
+#[test]
+fn a_million_short_inputs() {
+    const HEADER: [u8; 21] = [
+        0x4D, 0x47, 0x54, 1, 0, 2, 2, 1, 0, 1, 0, 0, 0, 1, 0, 0, 0, 1, 0, 0, 0,
+    ];
+    let mut random = Random::new(13);
+    let mut stops = [0u32; 15];
+    let mut log = Vec::new();
+    for round in 0..1_000_000 {
+        log.clear();
+        if round % 3 != 0 {
+            log.extend(HEADER);
+        }
+        for _ in 0..random.below(8) {
+            match round % 3 {
+                2 => log.extend(random_choice(&mut random).record()),
+                _ => log.extend((0..random.below(9)).map(|_| random.byte())),
+            }
+        }
+        let outcome = judge(&log);
+        stops[usize::from(outcome.stop)] += 1;
+        assert_eq!(outcome.verdict, if outcome.stop == 12 { 4 } else { 0 });
+    }
+    assert_eq!((stops[1], stops[11]), (0, 0), "{stops:?}");
+}
+
+/// Every change of a single byte of a short sound log.
+#[test]
+fn one_byte_changed() {
+    let mut log = vec![0x4D, 0x47, 0x54, 1, 0, 2, 1, 1, 2, 1, 1, 0, 1, 3, 0, 0, 0];
+    for choice in [
+        Choice::operation(1, 3, 1, 0, 2),
+        Choice::own(1),
+        Choice::own(1),
+    ] {
+        log.extend(choice.record());
+    }
+    let whole = judge(&log);
+    let expected = Outcome {
+        steps: 3,
+        stop: 0,
+        verdict: 0,
+    };
+    assert_eq!(whole, expected);
+    for at in 0..log.len() {
+        let byte = log[at];
+        for other in (0..=255).filter(|&other| other != byte) {
+            log[at] = other;
+            let outcome = judge(&log);
+            if at >= 17 {
+                assert_eq!((outcome.steps, outcome.stop), ((at as u32 - 17) / 8, 13));
+            }
+        }
+        log[at] = byte;
+    }
+}

@@ -1,0 +1,4 @@
+pub mod Codes
+pub mod States
+pub mod Choices
+pub mod Openings
