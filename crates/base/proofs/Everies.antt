@@ -37,3 +37,7 @@ module _ (t : ℕ → Bool) where
       go : (i < n → t i ≡ true) → Dec (i ≡ n) → t i ≡ true
       go f (yes q) = rw q ((and-both (every n t) (t n) h) .1)
       go f (no q) = f (omega arith)
+
+  pub every-all : (n : ℕ) → ((i : ℕ) → i < n → t i ≡ true) → every n t ≡ true
+  every-all zero h = refl
+  every-all (suc n) h = rw (every-all n (λ i l. h i (omega arith)), h n (omega arith)) refl

@@ -1,4 +1,5 @@
 // "Each owns a FIFO buffer of at most 8 pending stores": a store, and a buffer of them, oldest first.
+mod fits;
 mod stores;
 
 ghost use mathlib.Core.Path.{_≡_};

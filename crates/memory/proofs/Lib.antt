@@ -1,1 +1,12 @@
 pub mod Ends
+pub mod Shapes
+pub mod Spots
+pub mod Blocks
+pub mod Keeps
+pub mod Effects
+pub mod Commits
+pub mod Chains
+pub mod Refusals
+pub mod Sights
+pub mod Views
+pub mod Again

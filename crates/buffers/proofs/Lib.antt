@@ -1,0 +1,4 @@
+pub mod Hits
+pub mod Newests
+pub mod Fifos
+pub mod Wells

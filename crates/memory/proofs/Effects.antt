@@ -1,0 +1,266 @@
+-- What a step that is taken asks, what it changes, and what stays: a record for each, over the memory before and the memory after. Assumes nothing.
+--     is-taken, is-refused              an answer by its number and its memory
+--     write-taken                       Written: the entry is the last of the writer's list
+--     commit-taken                      Committed: the oldest leaves the list and is held at its spot
+--     fence-taken                       Fenced: nothing was pending, and nothing changes
+--     lock-taken, unlock-taken          Locked, Unlocked: the lock alone changes (Relocked)
+--     allocate-taken, free-taken        Allocated, Freed: one cell alone changes (Reset)
+--     committed-held                    after a commit its store is held at its spot, and every other spot is as before; Commits has it by the kind of store
+use mathlib.Core.Path.{_≡_, refl, sym, _∙_, ap}
+use mathlib.Core.Bool.{Bool, true, false}
+use mathlib.Core.Logic.{⊎-elim}
+use mathlib.Core.List.{List, [], _∷_, _++_}
+use Prim.Native.Nat.{ℕ, _+_, _≤_, _<_}
+use native.Mathlib.Omega.{arith}
+use lib.Dec.{eqb, leb}
+use lib.ListN.{length}
+use borrow.Author.Tests.{leb-false, eqb-true, eqb-false}
+use Rattle.base.specs.Pick.{pick}
+use Rattle.cells.specs.Sets.{memberOf, addOf, removeOf}
+use Rattle.cells.proofs.Members.{add-same, add-keeps, in-add, remove-gone, in-remove, remove-keeps}
+use Rattle.cells.proofs.Bools.{same-test}
+use Rattle.buffers.specs.declared.Phase.{Phase}
+use Rattle.buffers.specs.declared.Store.{Store}
+use Rattle.buffers.specs.declared.Store.the-variants as store
+use Rattle.buffers.specs.declared.Spot.{Spot}
+use Rattle.buffers.specs.declared.Entry.{Entry}
+use Rattle.buffers.specs.declared.Buffer.{Buffer}
+use Rattle.buffers.specs.Stores.{spotOf, hitsOf}
+use Rattle.buffers.specs.Buffers.{maxStores, pushOf, popOf}
+use Rattle.buffers.proofs.Fifos.{push-room, push-last, pop-oldest}
+use Rattle.memory.specs.declared.Memory.{Memory}
+use Rattle.memory.specs.declared.Done.{Done}
+use Rattle.memory.specs.Memories.{maxCells, maxProcesses, asTaken, taken, refused, withUsed, withMarks, withField0, withField1, withLock, putCell, usedOf, markOf, fieldOf, bufferOf, withBuffer, pendingLenOf, blockedOf, thereOf, heldOf, appliedOf}
+use Rattle.memory.specs.Steps.{writeOf, commitOf, fenceOf, lockOf, unlockOf, allocateOf, freeOf}
+use Rattle.memory.proofs.Shapes.{Shaped, pendingFor, pending-empty, pending-absent, there-or-not, buffer-same, buffer-other}
+use Rattle.memory.proofs.Spots.{Plain, Alike, Settled, cell-same, cell-other, held-same, held-applied, applied-settled, applied-lock, applied-buffers}
+
+-- ---- answers
+pub is-taken : (d : Done) → d .no ≡ asTaken → d ≡ taken (d .memory)
+is-taken d e = rw (← e)
+
+pub is-refused : (d : Done) (k : ℕ) (m : Memory) → d .no ≡ k → d .memory ≡ m → d ≡ refused k m
+is-refused d k m e f = rw (← e, ← f)
+
+no-taken : {k : ℕ} {m n : Memory} → (k ≡ asTaken → ⊥) → refused k m ≡ taken n → ⊥
+no-taken h e = h (ap (λ (d : Done). d .no) e)
+
+not-first : {A : Type 0} (t : Bool) {x y r : A} → (x ≡ r → ⊥) → pick t x y ≡ r → (t ≡ false) × (y ≡ r)
+not-first true n h = absurd (n h)
+not-first false n h = (refl, h)
+
+not-second : {A : Type 0} (t : Bool) {x y r : A} → (y ≡ r → ⊥) → pick t x y ≡ r → (t ≡ true) × (x ≡ r)
+not-second true n h = (refl, h)
+not-second false n h = absurd (n h)
+
+-- ---- write
+pub record Written (m : Memory) (p : ℕ) (e : Entry) (n : Memory) : Type 0 where
+  pub process : p < maxProcesses
+  pub room : length (pendingFor m p) < maxStores
+  pub own : pendingFor n p ≡ pendingFor m p ++ (e ∷ [])
+  pub others : (q : ℕ) → (q ≡ p → ⊥) → pendingFor n q ≡ pendingFor m q
+  pub lock : n .lock ≡ m .lock
+  pub alike : Alike m n
+  pub settled : Settled m n
+
+buffered : (m : Memory) (p : ℕ) (b : Buffer) → Alike m (withBuffer m p b)
+buffered m p b = record { marks = refl; field0 = refl; field1 = refl; fm = refl; fa = refl; phase = refl }
+
+pub write-taken : {m : Memory} (p : ℕ) (e : Entry) {n : Memory} → Shaped m → writeOf m p e ≡ taken n → Written m p e n
+unfolding writeOf pendingFor
+write-taken {m} p e {n} z h =
+    let a = not-first (leb maxProcesses p) (no-taken (λ x. omega arith)) h in
+    let b = not-second (pushOf (bufferOf m p) e .taken) (no-taken (λ x. omega arith)) (a .1) in
+    let l = leb-false maxProcesses p (a .0) in
+    let q = ap (λ (d : Done). d .memory) (b .1) in
+    rw (← q)
+    (record {
+      process = l;
+      room = push-room (bufferOf m p) e (z .sized p l) .0 (b .0);
+      own = rw (buffer-same m z p (pushOf (bufferOf m p) e .buffer) l) (push-last (bufferOf m p) e (z .sized p l) (b .0));
+      others = λ k ne. rw (buffer-other m p k (pushOf (bufferOf m p) e .buffer) ne);
+      lock = refl;
+      alike = buffered m p (pushOf (bufferOf m p) e .buffer);
+      settled = record { cells = refl; processes = refl; used = refl };
+    })
+
+-- ---- fence, lock, unlock
+pub record Fenced (m : Memory) (p : ℕ) (n : Memory) : Type 0 where
+  pub empty : pendingFor m p ≡ []
+  pub same : n ≡ m
+
+pub fence-taken : {m : Memory} (p : ℕ) {n : Memory} → Shaped m → fenceOf m p ≡ taken n → Fenced m p n
+unfolding fenceOf
+fence-taken {m} p {n} z h =
+    let a = not-second (eqb (pendingLenOf m p) 0) (no-taken (λ x. omega arith)) h in
+    record { empty = pending-empty m z p .0 (eqb-true (pendingLenOf m p) 0 (a .0)); same = sym (ap (λ (d : Done). d .memory) (a .1)) }
+
+-- the lock alone has changed
+pub record Relocked (m : Memory) (k : ℕ) (n : Memory) : Type 0 where
+  pub lock : n .lock ≡ k
+  pub pending : (q : ℕ) → pendingFor n q ≡ pendingFor m q
+  pub alike : Alike m n
+  pub settled : Settled m n
+
+relocked : {m : Memory} (k : ℕ) {n : Memory} → taken (withLock m k) ≡ taken n → Relocked m k n
+unfolding pendingFor
+relocked {m} k {n} h =
+    let q = ap (λ (d : Done). d .memory) h in
+    rw (← q)
+    (record {
+      lock = refl;
+      pending = λ i. refl;
+      alike = record { marks = refl; field0 = refl; field1 = refl; fm = refl; fa = refl; phase = refl };
+      settled = record { cells = refl; processes = refl; used = refl };
+    })
+
+pub record Locked (m : Memory) (p : ℕ) (n : Memory) : Type 0 where
+  pub free : m .lock ≡ 0
+  pub after : Relocked m (p + 1) n
+
+pub lock-taken : {m : Memory} (p : ℕ) {n : Memory} → lockOf m p ≡ taken n → Locked m p n
+unfolding lockOf
+lock-taken {m} p {n} h =
+    let a = not-second (eqb (m .lock) 0) (no-taken (λ x. omega arith)) h in
+    record { free = eqb-true (m .lock) 0 (a .0); after = relocked (p + 1) (a .1) }
+
+pub record Unlocked (m : Memory) (p : ℕ) (n : Memory) : Type 0 where
+  pub empty : pendingFor m p ≡ []
+  pub after : Relocked m 0 n
+
+pub unlock-taken : {m : Memory} (p : ℕ) {n : Memory} → Shaped m → unlockOf m p ≡ taken n → Unlocked m p n
+unfolding unlockOf
+unlock-taken {m} p {n} z h =
+    let a = not-second (eqb (pendingLenOf m p) 0) (no-taken (λ x. omega arith)) h in
+    record { empty = pending-empty m z p .0 (eqb-true (pendingLenOf m p) 0 (a .0)); after = relocked 0 (a .1) }
+
+-- ---- allocate, free: one cell is occupied or free from now on, with mark b and null fields
+pub record Reset (m : Memory) (c : ℕ) (u b : Bool) (n : Memory) : Type 0 where
+  pub used : usedOf n c ≡ u
+  pub used-others : (d : ℕ) → (d ≡ c → ⊥) → usedOf n d ≡ usedOf m d
+  pub mark : markOf n c ≡ b
+  pub marks-others : (d : ℕ) → (d ≡ c → ⊥) → markOf n d ≡ markOf m d
+  pub fields : (f : ℕ) → fieldOf n c f ≡ 0
+  pub fields-others : (d f : ℕ) → (d ≡ c → ⊥) → fieldOf n d f ≡ fieldOf m d f
+  pub fm : n .fm ≡ m .fm
+  pub fa : n .fa ≡ m .fa
+  pub phase : n .phase ≡ m .phase
+  pub lock : n .lock ≡ m .lock
+  pub cells : n .cells ≡ m .cells
+  pub processes : n .processes ≡ m .processes
+  pub pending : (q : ℕ) → pendingFor n q ≡ pendingFor m q
+
+both-same : {A : Type 0} (t : Bool) {x y v : A} → x ≡ v → y ≡ v → pick t x y ≡ v
+both-same true e f = e
+both-same false e f = f
+
+module _ (m : Memory) (z : Shaped m) (c : ℕ) (pos : 0 < c) (l : c ≤ maxCells) where
+  reset : (k : ℕ) (u b : Bool) → memberOf k c ≡ u → ((d : ℕ) → (d ≡ c → ⊥) → memberOf k d ≡ usedOf m d) → Reset m c u b (withField1 (withField0 (withMarks (withUsed m k) (putCell (m .marks) c b)) (putCell (m .field0) c 0)) (putCell (m .field1) c 0))
+  unfolding pendingFor
+  reset k u b e f =
+      record {
+        used = e;
+        used-others = f;
+        mark = cell-same (m .marks) false b c pos (omega (arith, z .marks));
+        marks-others = λ d ne. cell-other (m .marks) false b c d ne;
+        fields = λ g. both-same (eqb g 0) (cell-same (m .field0) 0 0 c pos (omega (arith, z .field0))) (cell-same (m .field1) 0 0 c pos (omega (arith, z .field1)));
+        fields-others = λ d g ne. rw (cell-other (m .field0) 0 0 c d ne, cell-other (m .field1) 0 0 c d ne);
+        fm = refl;
+        fa = refl;
+        phase = refl;
+        lock = refl;
+        cells = refl;
+        processes = refl;
+        pending = λ q. refl;
+      }
+
+  others-added : (d : ℕ) → (d ≡ c → ⊥) → memberOf (addOf (m .used) c) d ≡ usedOf m d
+  others-added d ne = same-test (memberOf (addOf (m .used) c) d) (usedOf m d) (λ i. ⊎-elim (λ k. k) (λ (e : c ≡ d). absurd (ne (sym e))) (in-add (m .used) c d i)) (add-keeps (m .used) c d)
+
+  others-removed : (d : ℕ) → (d ≡ c → ⊥) → memberOf (removeOf (m .used) c) d ≡ usedOf m d
+  others-removed d ne = same-test (memberOf (removeOf (m .used) c) d) (usedOf m d) (λ i. in-remove (m .used) c d i .0) (λ i. remove-keeps (m .used) c d i (λ e. ne (sym e)))
+
+pub record Allocated (m : Memory) (p c : ℕ) (n : Memory) : Type 0 where
+  pub unblocked : blockedOf m p ≡ false
+  pub free : usedOf m c ≡ false
+  pub used : n .used ≡ addOf (m .used) c
+  pub after : Reset m c true (m .fa) n
+
+pub record Freed (m : Memory) (p c : ℕ) (n : Memory) : Type 0 where
+  pub unblocked : blockedOf m p ≡ false
+  pub used : n .used ≡ removeOf (m .used) c
+  pub after : Reset m c false false n
+
+module _ {m : Memory} (p c : ℕ) {n : Memory} (z : Shaped m) (pos : 0 < c) (l : c ≤ maxCells) where
+  pub allocate-taken : allocateOf m p c ≡ taken n → Allocated m p c n
+  unfolding allocateOf
+  allocate-taken h =
+      let a = not-first (blockedOf m p) (no-taken (λ x. omega arith)) h in
+      let b = not-first (usedOf m c) (no-taken (λ x. omega arith)) (a .1) in
+      rw (← ap (λ (d : Done). d .memory) (b .1)) (record { unblocked = a .0; free = b .0; used = refl; after = reset m z c pos l (addOf (m .used) c) true (m .fa) (add-same (m .used) c pos (omega arith)) (others-added m z c pos l) })
+
+  pub free-taken : freeOf m p c ≡ taken n → Freed m p c n
+  unfolding freeOf
+  free-taken h =
+      let a = not-first (blockedOf m p) (no-taken (λ x. omega arith)) h in
+      rw (← ap (λ (d : Done). d .memory) (a .1)) (record { unblocked = a .0; used = refl; after = reset m z c pos l (removeOf (m .used) c) false false (remove-gone (m .used) c) (others-removed m z c pos l) })
+
+-- ---- commit
+pub record Committed (m : Memory) (p : ℕ) (n : Memory) : Type 0 where
+  pub oldest : Entry
+  pub rest : List Entry
+  pub process : p < maxProcesses
+  pub unblocked : blockedOf m p ≡ false
+  pub there : thereOf m (spotOf (oldest .store)) ≡ true
+  pub before : pendingFor m p ≡ oldest ∷ rest
+  pub own : pendingFor n p ≡ rest
+  pub others : (q : ℕ) → (q ≡ p → ⊥) → pendingFor n q ≡ pendingFor m q
+  pub lock : n .lock ≡ m .lock
+  pub settled : Settled m n
+  pub alike : Alike (appliedOf m (oldest .store)) n
+
+applied-over : (m : Memory) (p : ℕ) (b : Buffer) (s : Store) → appliedOf (withBuffer m p b) s ≡ withBuffer (appliedOf m s) p b
+unfolding appliedOf
+applied-over m p b (store.Mark c x) = refl
+applied-over m p b (store.Field c f v) = refl
+applied-over m p b (store.Sense x) = refl
+applied-over m p b (store.AllocSense x) = refl
+applied-over m p b (store.Phase x) = refl
+
+module _ {m : Memory} (p : ℕ) {n : Memory} (z : Shaped m) where
+  committed : (o : Entry) (es : List Entry) → pendingFor m p ≡ o ∷ es → p < maxProcesses → blockedOf m p ≡ false → thereOf m (spotOf (popOf (bufferOf m p) .entry .store)) ≡ true → appliedOf (withBuffer m p (popOf (bufferOf m p) .buffer)) (popOf (bufferOf m p) .entry .store) ≡ n → Committed m p n
+  unfolding pendingFor
+  committed o es h l u t q =
+      let b = popOf (bufferOf m p) in
+      let x = pop-oldest (bufferOf m p) (z .sized p l) h in
+      let k : n .buffers ≡ withBuffer m p (b .buffer) .buffers = ap (λ (i : Memory). i .buffers) (sym q) ∙ applied-buffers (withBuffer m p (b .buffer)) (b .entry .store) in
+      let w = applied-settled (withBuffer m p (b .buffer)) (b .entry .store) in
+      record {
+        oldest = o;
+        rest = es;
+        process = l;
+        unblocked = u;
+        there = rw (x .1) at t;
+        before = h;
+        own = rw (k, buffer-same m z p (b .buffer) l) (x .2);
+        others = λ i ne. rw (k, buffer-other m p i (b .buffer) ne);
+        lock = ap (λ (i : Memory). i .lock) (sym q) ∙ applied-lock (withBuffer m p (b .buffer)) (b .entry .store);
+        settled = rw (← q) (record { cells = w .cells; processes = w .processes; used = w .used });
+        alike = rw (← q, ← x .1, applied-over m p (b .buffer) (b .entry .store)) (buffered (appliedOf m (b .entry .store)) p (b .buffer));
+      }
+
+  pub commit-taken : commitOf m p ≡ taken n → Committed m p n
+  unfolding commitOf
+  commit-taken h =
+      let a = not-first (eqb (pendingLenOf m p) 0) (no-taken (λ x. omega arith)) h in
+      let b = not-first (blockedOf m p) (no-taken (λ x. omega arith)) (a .1) in
+      let c = not-second (thereOf m (spotOf (popOf (bufferOf m p) .entry .store))) (no-taken (λ x. omega arith)) (b .1) in
+      go (pendingFor m p) refl (λ e. eqb-false (pendingLenOf m p) 0 (a .0) (pending-empty m z p .1 e)) (b .0) (c .0) (ap (λ (d : Done). d .memory) (c .1))
+    where
+      go : (l : List Entry) → pendingFor m p ≡ l → (pendingFor m p ≡ [] → ⊥) → blockedOf m p ≡ false → thereOf m (spotOf (popOf (bufferOf m p) .entry .store)) ≡ true → appliedOf (withBuffer m p (popOf (bufferOf m p) .buffer)) (popOf (bufferOf m p) .entry .store) ≡ n → Committed m p n
+      go [] e ne u t q = absurd (ne e)
+      go (o ∷ es) e ne u t q = ⊎-elim (λ l. committed o es e l u t q) (λ l. absurd (ne (pending-absent m z p l))) (there-or-not p)
+
+module _ {m : Memory} {p : ℕ} {n : Memory} (z : Shaped m) (w : Committed m p n) where
+  pub committed-held : (at : Spot) → Plain (spotOf (w .oldest .store)) → Plain at → heldOf n at ≡ pick (hitsOf at (w .oldest .store)) (w .oldest .store) (heldOf m at)
+  committed-held at j i = held-same (appliedOf m (w .oldest .store)) n at (w .alike) ∙ held-applied m z (w .oldest .store) at (w .there) j i

@@ -1,0 +1,3 @@
+pub mod Wells
+pub mod Kept
+pub mod Shapes

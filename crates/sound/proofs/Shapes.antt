@@ -1,0 +1,60 @@
+-- What well-formed memory gives to the laws of memory. Assumes nothing.
+--     shaped            it is shaped
+--     pending-stores    every pending store fits
+--     plain, pending-plain     a store that fits has a plain spot, and so has every pending one
+use mathlib.Core.Path.{_≡_, refl}
+use mathlib.Core.Logic.{_⊎_, ⊎-elim, by-cases}
+use mathlib.Core.List.{List, [], _∷_, List·Memᴰ, List·Memᴰ·not-nil, List·Memᴰ·cases-cons}
+use Prim.Native.Nat.{ℕ, zero, suc, _≤_, _<_}
+use native.Mathlib.Omega.{arith}
+use native.Mathlib.Decide.{decLt}
+use lib.ListN.{take, getD}
+use Rattle.buffers.specs.declared.Store.{Store}
+use Rattle.buffers.specs.declared.Store.the-variants as store
+use Rattle.buffers.specs.declared.Entry.{Entry}
+use Rattle.buffers.specs.Stores.{noEntry, spotOf}
+use Rattle.buffers.specs.Fits.{StoreFits}
+use Rattle.buffers.proofs.Fifos.{Sized, empty-sized}
+use Rattle.memory.specs.declared.Memory.{Memory}
+use Rattle.memory.specs.Memories.{maxProcesses, bufferOf}
+use Rattle.memory.proofs.Shapes.{Shaped, pendingFor, pending-is, pending-absent, there-or-not}
+use Rattle.memory.proofs.Spots.{Plain}
+use Rattle.sound.specs.WellFormed.{WellFormed}
+
+pub shaped : (m : Memory) → WellFormed m → Shaped m
+shaped m w =
+    record {
+      marks = w .marks-sized;
+      field0 = w .field0-sized;
+      field1 = w .field1-sized;
+      buffers = w .buffers-sized;
+      sized = sized;
+      within = λ c h. omega (arith, w .used-cells c h .1, w .few-cells);
+    }
+  where
+    sized : (p : ℕ) → p < maxProcesses → Sized (bufferOf m p)
+    sized p l = by-cases (decLt p (m .processes)) (λ i. record { entries = w .buffers p i .sized; len = w .buffers p i .within }) (λ n. rw (w .no-process p (omega arith) l) empty-sized)
+
+every-taken : (P : Entry → Type 0) (n : ℕ) (l : List Entry) → ((i : ℕ) → i < n → P (getD l i noEntry)) → (e : Entry) → List·Memᴰ e (take n l) → P e
+every-taken P zero l f e i = absurd (List·Memᴰ·not-nil i)
+every-taken P (suc n) [] f e i = absurd (List·Memᴰ·not-nil i)
+every-taken P (suc n) (x ∷ l) f e i = ⊎-elim (λ (q : e ≡ x). rw q (f 0 (omega arith))) (λ j. every-taken P n l (λ k h. f (suc k) (omega arith)) e j) (List·Memᴰ·cases-cons i)
+
+pub pending-stores : (m : Memory) → WellFormed m → (p : ℕ) (e : Entry) → List·Memᴰ e (pendingFor m p) → StoreFits (m .cells) (e .store)
+pending-stores m w p e i = by-cases (decLt p (m .processes)) here (λ n. absurd (List·Memᴰ·not-nil (rw (none n) at i)))
+  where
+    here : p < m .processes → StoreFits (m .cells) (e .store)
+    here l = every-taken (λ x. StoreFits (m .cells) (x .store)) (bufferOf m p .len) (bufferOf m p .entries) (w .buffers p l .pending) e (rw (pending-is m p) at i)
+
+    none : (p < m .processes → ⊥) → pendingFor m p ≡ []
+    none n = ⊎-elim (λ l. rw (pending-is m p, w .no-process p (omega arith) l) refl) (λ l. pending-absent m (shaped m w) p l) (there-or-not p)
+
+pub plain : (n : ℕ) (s : Store) → StoreFits n s → Plain (spotOf s)
+plain n (store.Mark c b) f = omega arith
+plain n (store.Field c g v) f = omega (arith, f .1)
+plain n (store.Sense b) f = omega arith
+plain n (store.AllocSense b) f = omega arith
+plain n (store.Phase x) f = omega arith
+
+pub pending-plain : (m : Memory) → WellFormed m → (p : ℕ) (e : Entry) → List·Memᴰ e (pendingFor m p) → Plain (spotOf (e .store))
+pending-plain m w p e i = plain (m .cells) (e .store) (pending-stores m w p e i)
