@@ -1,0 +1,236 @@
+-- Demands 1 and 2: the statements of specs/Statements.antt, proved. Assumes nothing.
+--     refused      the number is that of the first reason that holds, and the state is the one that came
+--     answered     every answer is a taken step or such a refusal
+--     exact        taken to t exactly if a row leads to t
+--     kept         a step from a well-formed state is well formed
+--     one-step     only one answer
+use mathlib.Core.Path.{_≡_, refl, sym, ap, _∙_, subst}
+use mathlib.Core.Bool.{Bool, true, false, false≢true}
+use mathlib.Core.Logic.{_⊎_, inl, inr, ⊎-elim, _↔_}
+use Prim.Native.Nat.{ℕ, zero, suc, _≤_, _<_}
+use native.Mathlib.Omega.{arith}
+use native.Mathlib.Decide.{ℕ-discrete, decLt}
+use lib.Dec.{eqb, leb}
+use borrow.Author.Tests.{leb-true, leb-false, lt-leb, ne-eqb, eq-eqb}
+use Rattle.base.specs.Pick.{pick}
+use Rattle.state.specs.declared.State.{State}
+use Rattle.state.specs.declared.Choice.{Choice}
+use Rattle.state.specs.declared.Answer.{Answer}
+use Rattle.state.specs.Codes as code
+use Rattle.state.specs.Codes.{workFinish}
+use Rattle.memory.specs.Memories.{taken}
+use Rattle.memory.specs.Steps.{commitOf}
+use Rattle.state.specs.States.{mutatorsOf, processOf, refusedOf, takenOf}
+use Rattle.fits.specs.Fits.{WellFormed}
+use Rattle.fits.specs.WellFormed.{wellFormedOf}
+use Rattle.fits.proofs.Whole.{well-formed}
+use Rattle.rows.specs.Rows.{Row, Collector, Mutator}
+use Rattle.rows.specs.Rows as row
+use Rattle.rows.specs.Reasons as reason
+use Rattle.rows.specs.Reasons.{Reason, mover}
+use Rattle.mutator.specs.Mutators.{mutatorOf}
+use Rattle.collector.specs.Collectors.{collectorOf}
+use Rattle.rows.specs.Views as view
+use Rattle.rows.specs.Views.{View}
+use Rattle.rows.proofs.Picking.{pick-ind, pick-no}
+use Rattle.rows.proofs.MutatorView.{mutator-view-at}
+use Rattle.rows.proofs.MutatorRows.{mutator-complete-at}
+use Rattle.rows.proofs.CollectorView.{collector-view}
+use Rattle.rows.proofs.CollectorRows.{collector-complete}
+use Rattle.kept.proofs.Kept.{row-kept}
+use Rattle.engine.specs.Steps.{commitStep, ownStep, innerOf, stepOf}
+use Rattle.engine.specs.Statements.{First, Refused, Answered, Exact, Kept, One}
+use Rattle.engine.proofs.Located.{buffered, collecting, mutating}
+use Rattle.engine.proofs.CommitView.{commit-view, commit-row}
+
+-- ---- every answer, seen once for all theorems
+data Whole (s : State) (c : Choice) : Answer → Type 0 where
+  stops : (n : ℕ) → 0 < n → First s c n → Whole s c (refusedOf n s)
+  goes : {t : State} → WellFormed s → ((k : ℕ) → Reason s c k → ⊥) → Row s c t → Whole s c (takenOf t)
+
+-- a reason has its number: none is below 1
+some : (s : State) (c : Choice) (k : ℕ) → Reason s c k → 0 < k
+some s c k (reason.malformed e n) = omega arith
+some s c k (reason.noProcess e n) = omega arith
+some s c k (reason.noKind e n o) = omega arith
+some s c k (reason.notOffered e n) = omega arith
+some s c k (reason.nonePending e o w) = omega arith
+some s c k (reason.flagDown e f) = omega arith
+some s c k (reason.blocked e h) = omega arith
+some s c k (reason.pending e w) = omega arith
+some s c k (reason.full e o w) = omega arith
+some s c k (reason.occupied e o w) = omega arith
+some s c k (reason.free e o) = omega arith
+
+-- the reasons before 4: those that speak of the whole choice
+module _ (s : State) (c : Choice) (w : WellFormed s) where
+  early-1 : (k : ℕ) → k < code.notThere → Reason s c k → ⊥
+  early-1 k l (reason.malformed e n) = n w
+  early-1 k l (reason.noProcess e n) = omega arith
+  early-1 k l (reason.noKind e n o) = omega arith
+  early-1 k l (reason.notOffered e n) = omega arith
+  early-1 k l (reason.nonePending e o v) = omega arith
+  early-1 k l (reason.flagDown e f) = omega arith
+  early-1 k l (reason.blocked e h) = omega arith
+  early-1 k l (reason.pending e v) = omega arith
+  early-1 k l (reason.full e o v) = omega arith
+  early-1 k l (reason.occupied e o v) = omega arith
+  early-1 k l (reason.free e o) = omega arith
+
+  module _ (there : c .process ≤ mutatorsOf s) where
+    early-2 : (k : ℕ) → k < code.noSuchKind → Reason s c k → ⊥
+    early-2 k l (reason.malformed e n) = n w
+    early-2 k l (reason.noProcess e n) = omega arith
+    early-2 k l (reason.noKind e n o) = omega arith
+    early-2 k l (reason.notOffered e n) = omega arith
+    early-2 k l (reason.nonePending e o v) = omega arith
+    early-2 k l (reason.flagDown e f) = omega arith
+    early-2 k l (reason.blocked e h) = omega arith
+    early-2 k l (reason.pending e v) = omega arith
+    early-2 k l (reason.full e o v) = omega arith
+    early-2 k l (reason.occupied e o v) = omega arith
+    early-2 k l (reason.free e o) = omega arith
+
+    early : (c .kind ≡ 0) ⊎ (c .kind ≡ 1) → (k : ℕ) → k ≤ code.noSuchKind → Reason s c k → ⊥
+    early d k l (reason.malformed e n) = n w
+    early d k l (reason.noProcess e n) = omega arith
+    early d k l (reason.noKind e n o) = ⊎-elim n o d
+    early d k l (reason.notOffered e n) = omega arith
+    early d k l (reason.nonePending e o v) = omega arith
+    early d k l (reason.flagDown e f) = omega arith
+    early d k l (reason.blocked e h) = omega arith
+    early d k l (reason.pending e v) = omega arith
+    early d k l (reason.full e o v) = omega arith
+    early d k l (reason.occupied e o v) = omega arith
+    early d k l (reason.free e o) = omega arith
+
+    -- the view of an own step or a commit is one of the whole
+    module _ (d : (c .kind ≡ 0) ⊎ (c .kind ≡ 1)) (R : State → Type 0) (f : (t : State) → R t → Row s c t) where
+      whole-of : {a : Answer} → View R s c a → Whole s c a
+      whole-of (view.stops n l r) = stops n (omega arith) (record { holds = r .0; none-before = λ k u g. before k u g (decLt code.noSuchKind k) })
+        where
+          before : (k : ℕ) → k < n → Reason s c k → Dec (code.noSuchKind < k) → ⊥
+          before k u g (yes h) = r .1 k h u g
+          before k u g (no h) = early d k (omega arith) g
+      whole-of (view.goes {t} q r) = goes w (λ k g. clear k g (decLt code.noSuchKind k)) (f t r)
+        where
+          clear : (k : ℕ) → Reason s c k → Dec (code.noSuchKind < k) → ⊥
+          clear k g (yes h) = q k h g
+          clear k g (no h) = early d k (omega arith) g
+
+-- an own step, by its program
+own-whole : (s : State) (c : Choice) (w : WellFormed s) → c .process ≤ mutatorsOf s → c .kind ≡ 0 → Whole s c (ownStep s c)
+unfolding ownStep
+own-whole s c w h k =
+    pick-no (Whole s c) (c .process) 0
+    (λ e. subst (λ (p : ℕ). Whole s c (collectorOf s c (processOf s p))) (sym e)
+    (whole-of s c w h (inl k) (Collector s c 0 (processOf s 0)) (λ t r. row.collector k e r) (collector-view s c e (collecting s c w k e))))
+    (λ n. let z : 0 < c .process = omega arith in
+    whole-of s c w h (inl k) (Mutator s c (c .process) (processOf s (c .process))) (λ t r. row.mutator k refl z h r) (mutator-view-at s c (c .process) refl (mutating s c w k z h)))
+
+-- checks 2 and 3, and the step
+inner-whole : (s : State) (c : Choice) → WellFormed s → Whole s c (innerOf s c)
+unfolding innerOf
+inner-whole s c w =
+    let some-processes = w .memory .some-processes in
+    pick-ind (Whole s c) (leb (s .memory .processes) (c .process))
+    (λ t. let l = leb-true (s .memory .processes) (c .process) t in
+    stops code.notThere (omega arith) (record { holds = reason.noProcess refl (omega arith); none-before = early-1 s c w }))
+    (λ t. let l = leb-false (s .memory .processes) (c .process) t in
+    let h : c .process ≤ mutatorsOf s = omega arith in
+    pick-no (Whole s c) (c .kind) 0 (own-whole s c w h)
+    (λ n. pick-no (Whole s c) (c .kind) 1
+    (λ k. whole-of s c w h (inr k) (Row s c) (λ t r. r) (commit-view s c k (buffered s c w h .shaped) h))
+    (λ o. stops code.noSuchKind (omega arith) (record { holds = reason.noKind refl n o; none-before = early-2 s c w h }))))
+
+whole : (s : State) (c : Choice) → Whole s c (stepOf s c)
+unfolding stepOf
+whole s c =
+    pick-ind (Whole s c) (wellFormedOf s)
+    (λ t. inner-whole s c (well-formed s .0 t))
+    (λ t. stops code.malformed (omega arith) (record { holds = reason.malformed refl (λ w. false≢true (sym t ∙ well-formed s .1 w)); none-before = λ k l g. let z = some s c k g in omega arith }))
+
+-- ---- demand 1
+-- two first reasons are one
+same-first : (s : State) (c : Choice) (n m : ℕ) → First s c n → First s c m → n ≡ m
+same-first s c n m f g = go (decLt n m) (decLt m n)
+  where
+    go : Dec (n < m) → Dec (m < n) → n ≡ m
+    go (yes h) b = absurd (g .none-before n h (f .holds))
+    go (no h) (yes i) = absurd (f .none-before m i (g .holds))
+    go (no h) (no i) = omega arith
+
+number-of : {n m : ℕ} {s t : State} → refusedOf n s ≡ refusedOf m t → n ≡ m
+number-of e = ap (λ (a : Answer). a .no) e
+
+to-first : {s : State} {c : Choice} {n : ℕ} {a : Answer} → 0 < n → Whole s c a → a ≡ refusedOf n s → First s c n
+to-first {s} {c} z (stops m p f) e = subst (λ (k : ℕ). First s c k) (number-of e) f
+to-first z (goes w q r) e = let h = number-of e in absurd (omega arith)
+
+of-first : {s : State} {c : Choice} {n : ℕ} {a : Answer} → Whole s c a → First s c n → a ≡ refusedOf n s
+of-first {s} {c} {n} (stops m p f) g = ap (λ (k : ℕ). refusedOf k s) (same-first s c m n f g)
+of-first {n = n} (goes w q r) g = absurd (q n (g .holds))
+
+pub refused : Refused
+refused s c n z = (λ e. to-first z (whole s c) e, λ f. of-first (whole s c) f)
+
+either : {s : State} {c : Choice} {a : Answer} → Whole s c a → (a ≡ takenOf (a .state)) ⊎ ((0 < a .no) × (a ≡ refusedOf (a .no) s))
+either (stops n p f) = inr (p, refl)
+either (goes w q r) = inl refl
+
+pub answered : Answered
+answered s c = either (whole s c)
+
+-- ---- demand 2
+to-row : {s t : State} {c : Choice} {a : Answer} → Whole s c a → a ≡ takenOf t → WellFormed s × Row s c t
+to-row (stops n p f) e = let h = number-of e in absurd (omega arith)
+to-row {s} {c = c} (goes w q r) e = (w, subst (Row s c) (ap (λ (a : Answer). a .state) e) r)
+
+-- the step of a process that is there, by the kind of the choice and the process
+module _ (s : State) (c : Choice) (l : c .process < s .memory .processes) where
+  inner-own : c .kind ≡ 0 → innerOf s c ≡ ownStep s c
+  unfolding innerOf
+  inner-own k = rw (lt-leb (s .memory .processes) (c .process) l, eq-eqb (c .kind) 0 k) refl
+
+  inner-commit : c .kind ≡ 1 → innerOf s c ≡ commitStep s c
+  unfolding innerOf
+  inner-commit k = rw (lt-leb (s .memory .processes) (c .process) l, ne-eqb (c .kind) 0 (λ h. omega arith), eq-eqb (c .kind) 1 k) refl
+
+own-collector : (s : State) (c : Choice) → c .process ≡ 0 → ownStep s c ≡ collectorOf s c (processOf s 0)
+unfolding ownStep
+own-collector s c e = rw (eq-eqb (c .process) 0 e) (ap (λ (p : ℕ). collectorOf s c (processOf s p)) e)
+
+own-mutator : (s : State) (c : Choice) (p : ℕ) → c .process ≡ p → 0 < p → ownStep s c ≡ mutatorOf s c (processOf s p)
+unfolding ownStep
+own-mutator s c p e z = rw (ne-eqb (c .process) 0 (λ h. omega arith)) (ap (λ (k : ℕ). mutatorOf s c (processOf s k)) e)
+
+-- a row is an answer of the step that is made where the state is known to be well formed
+of-row : (s : State) (c : Choice) {t : State} → WellFormed s → Row s c t → innerOf s c ≡ takenOf t
+of-row s c w (row.collector k e r) =
+    let i = w .memory .some-processes in
+    inner-own s c (omega arith) k ∙ own-collector s c e ∙ collector-complete s c e (collecting s c w k e) r
+of-row s c w (row.mutator k {p} e z h r) =
+    let i = w .memory .some-processes in
+    let y : 0 < c .process = omega arith in
+    let g : c .process ≤ mutatorsOf s = omega arith in
+    let l : mover s c .place ≤ workFinish = mutating s c w k y g .place in
+    inner-own s c (omega arith) k ∙ own-mutator s c p e z ∙ mutator-complete-at s c p e (subst (λ (j : ℕ). processOf s j .place ≤ workFinish) e l) r
+of-row s c w (row.commits k {p} e h b {m} a) =
+    let i = w .memory .some-processes in
+    inner-commit s c (omega arith) k ∙ commit-row s c b (subst (λ (j : ℕ). commitOf (s .memory) j ≡ taken m) (sym e) a)
+
+pub exact : Exact
+unfolding stepOf
+exact s c t = (λ e. to-row (whole s c) e, λ h. rw (well-formed s .1 (h .0)) (of-row s c (h .0) (h .1)))
+
+-- ---- a step keeps the state well formed
+keeps : {s : State} {c : Choice} {a : Answer} → WellFormed s → Whole s c a → WellFormed (a .state)
+keeps w (stops n p f) = w
+keeps {s} {c} w (goes v q r) = row-kept s c w r
+
+pub kept : Kept
+kept s c w = keeps w (whole s c)
+
+-- ---- only one answer
+pub one-step : One
+one-step s c a b e f = e ∙ sym f

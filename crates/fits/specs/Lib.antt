@@ -1,0 +1,3 @@
+pub mod Uses
+pub mod WellFormed
+pub mod Fits

@@ -1,0 +1,26 @@
+-- Every step from a well-formed state gives a well-formed one. Assumes nothing.
+--     row-kept       for every row
+--     rows-kept      the same, as the statement of specs/
+use Prim.Native.Nat.{_<_}
+use native.Mathlib.Omega.{arith}
+use Rattle.sound.proofs.Kept.{commit-kept}
+use Rattle.state.specs.declared.State.{State}
+use Rattle.state.specs.declared.Choice.{Choice}
+use Rattle.state.specs.States.{processOf}
+use Rattle.fits.specs.Fits.{WellFormed}
+use Rattle.rows.specs.Rows.{Row}
+use Rattle.kept.specs.Kept.{RowKept}
+use Rattle.kept.proofs.Values.{commit-ranged}
+use Rattle.kept.proofs.Frames.{ranged, memory-framed}
+use Rattle.kept.proofs.Mutator.{mutator-kept}
+use Rattle.kept.proofs.Collector.{collector-kept}
+
+pub row-kept : (s : State) (c : Choice) {t : State} → WellFormed s → Row s c t → WellFormed t
+row-kept s c w (Row.collector k z r) = collector-kept s c (processOf s 0) w (w .collector) r
+row-kept s c w (Row.mutator k {p = p} e pos mine r) = mutator-kept s c p (processOf s p) w pos mine (w .mutators p pos mine) r
+row-kept s c w (Row.commits k {p = p} e mine b {m = m} h) =
+    let here : p < s .memory .processes = omega (arith, w .memory .some-processes) in
+    memory-framed s w m (rw h at (commit-kept (s .memory) p (w .memory) here)) (rw h at (commit-ranged (s .memory) p (ranged s w)))
+
+pub rows-kept : RowKept
+rows-kept s c t = row-kept s c

@@ -1,0 +1,10 @@
+pub mod Values
+pub mod Frames
+pub mod Places
+pub mod Marking
+pub mod Mutator
+pub mod Collector
+pub mod Kept
+pub mod Memories
+pub mod Leaves
+pub mod Deeds

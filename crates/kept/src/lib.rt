@@ -1,0 +1,1 @@
+// Every step from a well-formed state gives a well-formed one.

@@ -1,0 +1,17 @@
+pub mod Picking
+pub mod Numbers
+pub mod Deeds
+pub mod Offering
+pub mod Seeing
+pub mod Standing
+pub mod Marking
+pub mod MutatorTop
+pub mod MutatorView
+pub mod MutatorRows
+pub mod Lists
+pub mod CollectorPlaces
+pub mod CollectorMoves
+pub mod RoundRows
+pub mod RoundView
+pub mod CollectorRows
+pub mod CollectorView

@@ -1,0 +1,82 @@
+-- Memory's answer where it takes the step, as the rows write it. Assumes nothing.
+--     bit-seen, value-seen, phase-seen      a look that is taken sees its own value
+--     swept-free, swept-mark                the sweep's look that is taken finds a free cell, or a mark
+--     step-taken, fence-taken               a step that is taken; a fence changes nothing
+--     same-bit, other-bit                   two bits that are the same, and that are not
+--     bit-same, bit-other                   and the test of them
+use mathlib.Core.Path.{_≡_, refl, sym, ap, _∙_, subst}
+use mathlib.Core.Bool.{Bool, true, false, not, false≢true}
+use Prim.Native.Nat.{ℕ}
+use lib.Dec.{eqb}
+use Rattle.base.specs.Pick.{sameBit}
+use Rattle.memory.specs.declared.Memory.{Memory}
+use Rattle.memory.specs.declared.Done.{Done}
+use Rattle.memory.specs.declared.SeenBit.{SeenBit}
+use Rattle.memory.specs.declared.SeenValue.{SeenValue}
+use Rattle.memory.specs.declared.SeenPhase.{SeenPhase}
+use Rattle.memory.specs.declared.Swept.{Swept}
+use Rattle.memory.specs.Memories.{asTaken, byFree, taken}
+use Rattle.memory.specs.Looks.{sweptOf, lookMarkOf, lookSweptOf}
+use Rattle.memory.specs.Steps.{fenceOf}
+use Rattle.memory.proofs.Sights.{look-swept-is}
+use Rattle.rows.specs.Rows.{seesBit, seesValue, seesPhase, findsFree, findsMark}
+use Rattle.rows.proofs.Numbers.{fence-memory}
+use Rattle.rows.proofs.Picking.{pick-ind}
+
+pub bit-seen : (l : SeenBit) → l .no ≡ asTaken → l ≡ seesBit (l .bit)
+bit-seen l e = ap (λ (n : ℕ). record { no = n; bit = l .bit }) e
+
+pub value-seen : (l : SeenValue) → l .no ≡ asTaken → l ≡ seesValue (l .value)
+value-seen l e = ap (λ (n : ℕ). record { no = n; value = l .value }) e
+
+pub phase-seen : (l : SeenPhase) → l .no ≡ asTaken → l ≡ seesPhase (l .phase)
+phase-seen l e = ap (λ (n : ℕ). record { no = n; phase = l .phase }) e
+
+pub step-taken : (k : Done) → k .no ≡ asTaken → k ≡ taken (k .memory)
+step-taken k e = ap (λ (n : ℕ). record { no = n; memory = k .memory }) e
+
+pub fence-taken : (m : Memory) (p : ℕ) → fenceOf m p .no ≡ asTaken → fenceOf m p ≡ taken m
+fence-taken m p e = step-taken (fenceOf m p) e ∙ ap taken (fence-memory m p)
+
+-- ---- the sweep's look
+swept-is : (l : SeenBit) → sweptOf l .no ≡ asTaken → (sweptOf l .used ≡ false → sweptOf l ≡ findsFree) × (sweptOf l .used ≡ true → sweptOf l ≡ findsMark (sweptOf l .bit))
+swept-is l =
+    pick-ind (λ (a : Swept). a .no ≡ asTaken → (a .used ≡ false → a ≡ findsFree) × (a .used ≡ true → a ≡ findsMark (a .bit))) (eqb (l .no) byFree)
+    (λ t e. (λ u. refl, λ u. absurd (false≢true u)))
+    (λ t e. (λ u. absurd (false≢true (sym u ∙ rw e refl)), λ u. rw e refl))
+
+module _ (m : Memory) (p r : ℕ) (e : lookSweptOf m p r .no ≡ asTaken) where
+  swept-finds : (lookSweptOf m p r .used ≡ false → lookSweptOf m p r ≡ findsFree) × (lookSweptOf m p r .used ≡ true → lookSweptOf m p r ≡ findsMark (lookSweptOf m p r .bit))
+  swept-finds =
+      subst (λ (l : Swept). l .no ≡ asTaken → (l .used ≡ false → l ≡ findsFree) × (l .used ≡ true → l ≡ findsMark (l .bit))) (sym (look-swept-is m p r)) (swept-is (lookMarkOf m p r)) e
+
+  pub swept-free : lookSweptOf m p r .used ≡ false → lookSweptOf m p r ≡ findsFree
+  swept-free u = swept-finds .0 u
+
+  pub swept-mark : lookSweptOf m p r .used ≡ true → lookSweptOf m p r ≡ findsMark (lookSweptOf m p r .bit)
+  swept-mark u = swept-finds .1 u
+
+-- ---- bits
+pub same-bit : (a b : Bool) → sameBit a b ≡ true → a ≡ b
+unfolding sameBit
+same-bit true true e = refl
+same-bit true false e = absurd (false≢true e)
+same-bit false true e = absurd (false≢true e)
+same-bit false false e = refl
+
+pub other-bit : (a b : Bool) → sameBit a b ≡ false → not a ≡ b
+unfolding sameBit
+other-bit true true e = absurd (false≢true (sym e))
+other-bit true false e = refl
+other-bit false true e = refl
+other-bit false false e = absurd (false≢true (sym e))
+
+pub bit-same : (a : Bool) → sameBit a a ≡ true
+unfolding sameBit
+bit-same true = refl
+bit-same false = refl
+
+pub bit-other : (a : Bool) → sameBit a (not a) ≡ false
+unfolding sameBit
+bit-other true = refl
+bit-other false = refl

@@ -1,0 +1,5 @@
+pub mod Offers
+pub mod Deeds
+pub mod Rows
+pub mod Reasons
+pub mod Views

@@ -1,0 +1,41 @@
+// The state that the cases start from, and how a case is written: a name, and whether its state is well formed.
+use state::Process;
+use state::State;
+use state::opening::Heap;
+
+// Three cells, of which 1 and 2 are occupied and cell 1 names cell 2; two mutators, of which the first has the root 1.
+pub fn ground() -> State {
+    let mut field0 = [0; 32];
+    field0[0] = 2;
+    let field1 = [0; 32];
+    let roots = [1, 0, 0, 0];
+    State::opening(Heap {
+        cells: 3,
+        processes: 3,
+        used: 3,
+        field0,
+        field1,
+        roots,
+    })
+}
+
+pub fn answer(s: State) {
+    if fits::well_formed(s) {
+        io::write_all(1, b"yes");
+    } else {
+        io::write_all(1, b"no");
+    }
+}
+
+pub fn say(name: &[u8], s: State) {
+    io::write_all(1, name);
+    io::write_all(1, b": ");
+    answer(s);
+    io::write_all(1, b"\n");
+}
+
+// The ground with process p replaced.
+pub fn seat(p: u8, q: Process) -> State {
+    let s = ground();
+    s.with_process(p, q)
+}

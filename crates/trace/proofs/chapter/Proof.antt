@@ -1,0 +1,35 @@
+-- `trace::chapter` is safe and ends. The loop's invariant: the place reached is within the text.
+use Prim.Native.Nat.{_≤_, _-_}
+use lib.ListN.{length}
+use borrow.Author.Needs.{needs}
+use Rattle.trace.proofs.chapter.Statement.{statement}
+use Rattle.trace.proofs.chapter.Tie as tie
+
+abbrev Inv-loop : tie.InvT-loop
+Inv-loop title text s₀ at₀ s at = at ≤ length text
+
+abbrev μ-loop : tie.MeasureT-loop
+μ-loop title text s₀ at₀ s at = length text - at
+
+pub chapter-spec : {M : Type 1} → statement M
+chapter-spec =
+    tie.close
+    (tie.spec
+    Inv-loop
+    μ-loop
+    (search needs)
+    (search needs)
+    (search needs)
+    (search needs)
+    (search needs)
+    (search needs)
+    (search needs)
+    (search needs)
+    (search needs)
+    (search needs)
+    (search needs)
+    (λ c. search needs)
+    (search needs)
+    (search needs)
+    (search needs)
+    (λ c. search needs))
