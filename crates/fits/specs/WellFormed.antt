@@ -1,5 +1,5 @@
 -- Refusal 1 as the test that the code makes: "the state is malformed: a count, cell, process, set, place or buffer length out of range, or something unused
--- not zero". `Fits` says the same as facts; proofs/Agrees has that the two agree. Assumes nothing.
+-- not zero". `Fits` says the same as facts; proofs/Whole has that the two agree. Assumes nothing.
 use mathlib.Core.Bool.{Bool, true, false}
 use Prim.Native.Nat.{ℕ}
 use mathlib.Core.List.{List}

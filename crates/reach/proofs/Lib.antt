@@ -1,0 +1,4 @@
+pub mod Folds
+pub mod Closures
+pub mod Helds
+pub mod Reaches

@@ -1,0 +1,3 @@
+pub mod Held
+pub mod Reach
+pub mod Statements

@@ -1,0 +1,5 @@
+pub mod Colours
+pub mod Table
+pub mod Judged
+pub mod Statements
+pub mod Findings
