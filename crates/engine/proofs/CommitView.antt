@@ -1,30 +1,27 @@
 -- A commit's answer, against the reasons of refusal and the rows. Assumes nothing.
 --     commit-view     refused for the first reason that holds, or taken as the row of a commit
 --     commit-row      the row of a commit is its answer
-use mathlib.Core.Path.{_≡_, refl, sym, ap, _∙_, subst}
-use mathlib.Core.Bool.{Bool, true, false, false≢true}
-use mathlib.Core.Logic.{_⊎_, inl, inr, ⊎-elim}
+use mathlib.Core.Path.{_≡_, refl, sym, _∙_, subst}
+use mathlib.Core.Bool.{true, false, false≢true}
+use mathlib.Core.Logic.{_⊎_, ⊎-elim}
 use mathlib.Core.List.{List, [], _∷_}
 use Prim.Native.Nat.{ℕ, _≤_, _<_}
 use native.Mathlib.Omega.{arith}
-use lib.Dec.{eqb}
 use Rattle.buffers.specs.declared.Entry.{Entry}
 use Rattle.buffers.specs.declared.Spot.{Spot}
 use Rattle.buffers.specs.declared.Spot.the-variants as spot
 use Rattle.buffers.specs.Stores.{spotOf}
 use Rattle.memory.specs.declared.Memory.{Memory}
-use Rattle.memory.specs.Memories.{asTaken, byNonePending, byBlocked, byFree, taken, thereOf, blockedOf}
+use Rattle.memory.specs.Memories.{asTaken, byNonePending, byBlocked, byFree, taken, thereOf}
 use Rattle.memory.specs.Steps.{commitOf}
 use Rattle.memory.proofs.Shapes.{Shaped, pendingFor, pending-is, oldestOf}
 use Rattle.memory.proofs.Spots.{there-mark, there-field, there-sense, there-alloc-sense, there-phase}
-use Rattle.memory.proofs.Blocks.{blocked-is}
-use Rattle.memory.proofs.Chains.{Three}
 use Rattle.memory.proofs.Refusals.{commit-no}
 use Rattle.memory.proofs.Effects.{is-taken}
 use Rattle.state.specs.declared.State.{State}
 use Rattle.state.specs.declared.Choice.{Choice}
 use Rattle.state.specs.Codes as code
-use Rattle.state.specs.States.{mutatorsOf, withMemory, refusedOf, takenOf}
+use Rattle.state.specs.States.{mutatorsOf, withMemory, takenOf}
 use Rattle.state.specs.Choices.{isBlank}
 use Rattle.rows.specs.Offers.{Bare}
 use Rattle.rows.specs.Rows.{Row}
@@ -33,6 +30,7 @@ use Rattle.rows.specs.Reasons as reason
 use Rattle.rows.specs.Reasons.{waiting, Blocked, OnFree, NotOffered, Held, Waits, OfFree, Reason}
 use Rattle.rows.specs.Views.{OwnFirst, OwnClear, View, stops, goes}
 use Rattle.rows.proofs.Picking.{pick-ind, pick-no}
+use Rattle.rows.proofs.Numbers.{is-blocked, un-blocked}
 use Rattle.rows.proofs.Offering.{blank-bare, bare-blank}
 use Rattle.engine.specs.Steps.{commitStep}
 
@@ -102,9 +100,6 @@ module _ (s : State) (c : Choice) (kind : c .kind ≡ 1) where
     is-waiting : pendingFor (s .memory) (c .process) ≡ waiting s c
     is-waiting = pending-is (s .memory) (c .process)
 
-    un-blocked : blockedOf (s .memory) (c .process) ≡ false → Blocked (s .memory) (c .process) → ⊥
-    un-blocked b h = false≢true (sym b ∙ blocked-is (s .memory) (c .process) .1 (h .held, h .other))
-
     data Found (n : ℕ) : Type 0 where
       nothing : n ≡ byNonePending → waiting s c ≡ [] → Found n
       withheld : n ≡ byBlocked → (waiting s c ≡ [] → ⊥) → Blocked (s .memory) (c .process) → Found n
@@ -124,9 +119,9 @@ module _ (s : State) (c : Choice) (kind : c .kind ≡ 1) where
         let t = commit-no (s .memory) (c .process) z in
         let w = is-waiting in
         ⊎-elim (λ e. nothing e (sym w ∙ t .first .0 e))
-        (λ x. ⊎-elim (λ e. let k = t .second .0 e in let b = blocked-is (s .memory) (c .process) .0 (k .1) in withheld e (λ h. k .0 (w ∙ h)) (record { held = b .0; other = b .1 }))
-        (λ y. ⊎-elim (λ e. let k = t .third .0 e in landing (pendingFor (s .memory) (c .process)) (sym w) (k .0) e (un-blocked (k .1)) (k .2))
-        (λ e. let k = t .fourth .0 e in freeing (pendingFor (s .memory) (c .process)) (sym w) (k .0) e (un-blocked (k .1)) (k .2)) y) x)
+        (λ x. ⊎-elim (λ e. let k = t .second .0 e in withheld e (λ h. k .0 (w ∙ h)) (is-blocked (s .memory) (c .process) (k .1)))
+        (λ y. ⊎-elim (λ e. let k = t .third .0 e in landing (pendingFor (s .memory) (c .process)) (sym w) (k .0) e (un-blocked (s .memory) (c .process) (k .1)) (k .2))
+        (λ e. let k = t .fourth .0 e in freeing (pendingFor (s .memory) (c .process)) (sym w) (k .0) e (un-blocked (s .memory) (c .process) (k .1)) (k .2)) y) x)
         (t .only)
 
     -- a commit is refused for the first reason that holds

@@ -5,18 +5,18 @@ use mathlib.Core.Path.{_≡_, refl, sym, _∙_}
 use mathlib.Core.Bool.{Bool, true, false, not, false≢true}
 use Prim.Native.Nat.{ℕ, _≤_, _<_}
 use native.Mathlib.Omega.{arith}
-use lib.Dec.{eqb, leb}
-use borrow.Author.Tests.{leb-true, not-true, eq-eqb}
+use borrow.Author.Tests.{not-true}
 use Rattle.base.specs.Every.{_and_}
 use Rattle.base.proofs.Everies.{and-both}
 use Rattle.sound.proofs.Shapes.{shaped}
 use Rattle.state.specs.declared.Process.{Process}
 use Rattle.state.specs.declared.State.{State}
 use Rattle.state.specs.declared.Choice.{Choice}
-use Rattle.state.specs.Codes.{workFinish, row1Round, row10Look, row11Write, noStage, unlockStage, pollStage}
+use Rattle.state.specs.Codes.{row10Look, noStage, unlockStage, pollStage}
 use Rattle.state.specs.States.{mutatorsOf, processOf}
 use Rattle.fits.specs.Fits.{WellFormed, idlePlaces, plainPlaces, roundPlaces, scanPlaces, scanMarkPlaces, CollectorAt, plain, round, scan, scan-mark, sweep, sweep-free, MutatorAt, idle, mark-old, mark-y, write, roots-first, roots-rest}
 use Rattle.fits.proofs.Places.{all-true}
+use Rattle.fits.proofs.Gives.{sweep-at, mutator-within, collector-within}
 use Rattle.rows.specs.Offers.{markPlace, roundPlace}
 use Rattle.rows.specs.Reasons.{mover}
 use Rattle.rows.proofs.Standing.{Standing}
@@ -24,85 +24,54 @@ use Rattle.rows.proofs.Numbers.{Buffered}
 use Rattle.rows.proofs.MutatorTop.{Mutating}
 use Rattle.rows.proofs.CollectorPlaces.{Collecting}
 
--- ---- the stage of a place, by its kind
+-- ---- the stage of a place, by its kind: with no stages, those of a mark, or those of a round
+abbrev plainOf : ℕ → Bool
+plainOf k = not (markPlace k) and not (roundPlace k)
+
+abbrev markOf : ℕ → Bool
+markOf k = markPlace k and not (roundPlace k)
+
+abbrev roundOf : ℕ → Bool
+roundOf k = not (markPlace k) and roundPlace k
+
 module _ (q : Process) where
   no : {A : Type 0} {b : Bool} → b ≡ false → b ≡ true → A
   no e h = absurd (false≢true (sym e ∙ h))
 
-  stands-plain : markPlace (q .place) ≡ false → roundPlace (q .place) ≡ false → q .stage ≡ noStage → Standing q
-  stands-plain m r e = record { unstaged = λ _ _. e; mark-begun = λ h. no m h; mark-running = λ h. no m h; round-begun = λ h. no r h; round-running = λ h. no r h }
+  stands-plain : plainOf (q .place) ≡ true → q .stage ≡ noStage → Standing q
+  stands-plain h e =
+      let k = and-both (not (markPlace (q .place))) (not (roundPlace (q .place))) h in
+      let m = not-true (markPlace (q .place)) (k .0) in
+      let r = not-true (roundPlace (q .place)) (k .1) in
+      record { unstaged = λ _ _. e; mark-begun = λ i. no m i; mark-running = λ i. no m i; round-begun = λ i. no r i; round-running = λ i. no r i }
 
-  stands-mark : markPlace (q .place) ≡ true → roundPlace (q .place) ≡ false → 0 < q .stage → q .stage ≤ unlockStage → Standing q
-  stands-mark m r b l = record { unstaged = λ h _. no h m; mark-begun = λ _. b; mark-running = λ _. l; round-begun = λ h. no r h; round-running = λ h. no r h }
+  stands-mark : markOf (q .place) ≡ true → 0 < q .stage → q .stage ≤ unlockStage → Standing q
+  stands-mark h b l =
+      let k = and-both (markPlace (q .place)) (not (roundPlace (q .place))) h in
+      let r = not-true (roundPlace (q .place)) (k .1) in
+      record { unstaged = λ i _. no i (k .0); mark-begun = λ _. b; mark-running = λ _. l; round-begun = λ i. no r i; round-running = λ i. no r i }
 
-  stands-round : markPlace (q .place) ≡ false → roundPlace (q .place) ≡ true → 0 < q .stage → q .stage ≤ pollStage → Standing q
-  stands-round m r b l = record { unstaged = λ _ h. no h r; mark-begun = λ h. no m h; mark-running = λ h. no m h; round-begun = λ _. b; round-running = λ _. l }
+  stands-round : roundOf (q .place) ≡ true → 0 < q .stage → q .stage ≤ pollStage → Standing q
+  stands-round h b l =
+      let k = and-both (not (markPlace (q .place))) (roundPlace (q .place)) h in
+      let m = not-true (markPlace (q .place)) (k .0) in
+      record { unstaged = λ _ i. no i (k .1); mark-begun = λ i. no m i; mark-running = λ i. no m i; round-begun = λ _. b; round-running = λ _. l }
 
--- ---- the collector
--- what a group of its places has in common: with or without the stages of a mark or a round; none is row 10's look
-abbrev plainOf : ℕ → Bool
-plainOf k = leb row1Round k and leb k row11Write and not (markPlace k) and not (roundPlace k) and not (eqb k row10Look)
+  collector-stands : {n m : ℕ} → CollectorAt n m q → Standing q
+  collector-stands (plain g w) = stands-plain (all-true plainOf plainPlaces refl (q .place) g) (w .stage)
+  collector-stands (round g w) = stands-round (all-true roundOf roundPlaces refl (q .place) g) (w .begun) (w .running)
+  collector-stands (scan g w) = stands-plain (all-true plainOf scanPlaces refl (q .place) g) (w .stage)
+  collector-stands (scan-mark g w) = stands-mark (all-true markOf scanMarkPlaces refl (q .place) g) (w .mark .begun) (w .mark .running)
+  collector-stands (sweep e w) = stands-plain (rw e refl) (w .stage)
+  collector-stands (sweep-free e w) = stands-plain (rw e refl) (w .stage)
 
-abbrev roundOf : ℕ → Bool
-roundOf k = leb row1Round k and leb k row11Write and not (markPlace k) and roundPlace k and not (eqb k row10Look)
-
-abbrev markOf : ℕ → Bool
-markOf k = leb row1Round k and leb k row11Write and markPlace k and not (roundPlace k) and not (eqb k row10Look)
-
-record Located (q : Process) : Type 0 where
-  pub first : row1Round ≤ q .place
-  pub last : q .place ≤ row11Write
-  pub standing : Standing q
-  pub swept : q .place ≡ row10Look → q .x ≡ 0
-
-module _ (q : Process) where
-  -- the tests taken apart
-  located : (a b : Bool) → leb row1Round (q .place) and leb (q .place) row11Write and a and b and not (eqb (q .place) row10Look) ≡ true → (a ≡ true → b ≡ true → Standing q) → Located q
-  located a b h f =
-      let k = q .place in
-      let h1 = and-both (leb row1Round k) (leb k row11Write and a and b and not (eqb k row10Look)) h in
-      let h2 = and-both (leb k row11Write) (a and b and not (eqb k row10Look)) (h1 .1) in
-      let h3 = and-both a (b and not (eqb k row10Look)) (h2 .1) in
-      let h4 = and-both b (not (eqb k row10Look)) (h3 .1) in
-      record {
-        first = leb-true row1Round k (h1 .0);
-        last = leb-true k row11Write (h2 .0);
-        standing = f (h3 .0) (h4 .0);
-        swept = λ e. absurd (false≢true (sym (not-true (eqb k row10Look) (h4 .1)) ∙ eq-eqb k row10Look e));
-      }
-
-  collector-located : {n m : ℕ} → CollectorAt n m q → Located q
-  collector-located (plain g w) =
-      located (not (markPlace (q .place))) (not (roundPlace (q .place))) (all-true plainOf plainPlaces refl (q .place) g) (λ a b. stands-plain q (not-true (markPlace (q .place)) a) (not-true (roundPlace (q .place)) b) (w .stage))
-  collector-located (round g w) =
-      located (not (markPlace (q .place))) (roundPlace (q .place)) (all-true roundOf roundPlaces refl (q .place) g) (λ a b. stands-round q (not-true (markPlace (q .place)) a) b (w .begun) (w .running))
-  collector-located (scan g w) =
-      located (not (markPlace (q .place))) (not (roundPlace (q .place))) (all-true plainOf scanPlaces refl (q .place) g) (λ a b. stands-plain q (not-true (markPlace (q .place)) a) (not-true (roundPlace (q .place)) b) (w .stage))
-  collector-located (scan-mark g w) =
-      located (markPlace (q .place)) (not (roundPlace (q .place))) (all-true markOf scanMarkPlaces refl (q .place) g) (λ a b. stands-mark q a (not-true (roundPlace (q .place)) b) (w .mark .begun) (w .mark .running))
-  collector-located (sweep e w) = record { first = omega arith; last = omega arith; standing = stands-plain q (rw e refl) (rw e refl) (w .stage); swept = λ _. w .no-x }
-  collector-located (sweep-free e w) = record { first = omega arith; last = omega arith; standing = stands-plain q (rw e refl) (rw e refl) (w .stage); swept = λ h. absurd (omega arith) }
-
--- ---- a mutator
-abbrev idleOf : ℕ → Bool
-idleOf k = leb k workFinish and not (markPlace k) and not (roundPlace k)
-
-record Mutates (q : Process) : Type 0 where
-  pub place : q .place ≤ workFinish
-  pub standing : Standing q
-
-module _ (q : Process) where
-  mutator-located : {n : ℕ} → MutatorAt n q → Mutates q
-  mutator-located (idle g w) =
-      let k = q .place in
-      let h1 = and-both (leb k workFinish) (not (markPlace k) and not (roundPlace k)) (all-true idleOf idlePlaces refl k g) in
-      let h2 = and-both (not (markPlace k)) (not (roundPlace k)) (h1 .1) in
-      record { place = leb-true k workFinish (h1 .0); standing = stands-plain q (not-true (markPlace k) (h2 .0)) (not-true (roundPlace k) (h2 .1)) (w .stage) }
-  mutator-located (mark-old e w) = record { place = omega arith; standing = stands-mark q (rw e refl) (rw e refl) (w .mark .begun) (w .mark .running) }
-  mutator-located (mark-y e w) = record { place = omega arith; standing = stands-mark q (rw e refl) (rw e refl) (w .mark .begun) (w .mark .running) }
-  mutator-located (write e w) = record { place = omega arith; standing = stands-plain q (rw e refl) (rw e refl) (w .stage) }
-  mutator-located (roots-first e w) = let h = w .stage in record { place = omega arith; standing = stands-mark q (rw e refl) (rw e refl) (omega arith) (omega arith) }
-  mutator-located (roots-rest e w) = record { place = omega arith; standing = stands-mark q (rw e refl) (rw e refl) (w .mark .begun) (w .mark .running) }
+  mutator-stands : {n : ℕ} → MutatorAt n q → Standing q
+  mutator-stands (idle g w) = stands-plain (all-true plainOf idlePlaces refl (q .place) g) (w .stage)
+  mutator-stands (mark-old e w) = stands-mark (rw e refl) (w .mark .begun) (w .mark .running)
+  mutator-stands (mark-y e w) = stands-mark (rw e refl) (w .mark .begun) (w .mark .running)
+  mutator-stands (write e w) = stands-plain (rw e refl) (w .stage)
+  mutator-stands (roots-first e w) = let h = w .stage in stands-mark (rw e refl) (omega arith) (omega arith)
+  mutator-stands (roots-rest e w) = stands-mark (rw e refl) (w .mark .begun) (w .mark .running)
 
 -- ---- both, from the state
 module _ (s : State) (c : Choice) (w : WellFormed s) where
@@ -114,18 +83,20 @@ module _ (s : State) (c : Choice) (w : WellFormed s) where
 
   pub collecting : c .kind ≡ 0 → c .process ≡ 0 → Collecting s c
   collecting k e =
-      let l = collector-located (processOf s 0) (w .collector .notes) in
+      let f = w .collector in
+      let l = collector-within f in
+      let x : processOf s 0 .place ≡ row10Look → processOf s 0 .x ≡ 0 = λ h. sweep-at h f .no-x in
       record {
         kind = k;
-        first = rw e (l .first);
-        last = rw e (l .last);
-        standing = rw e (l .standing);
-        swept = rw e (l .swept);
+        first = rw e (l .0);
+        last = rw e (l .1);
+        standing = rw e (collector-stands (processOf s 0) (f .notes));
+        swept = rw e x;
         processes = w .sized;
         buffered = buffered (omega arith);
       }
 
   pub mutating : c .kind ≡ 0 → 0 < c .process → c .process ≤ mutatorsOf s → Mutating s c
   mutating k z h =
-      let l = mutator-located (mover s c) (w .mutators (c .process) z h .notes) in
-      record { kind = k; place = l .place; standing = l .standing; buffered = buffered h }
+      let f = w .mutators (c .process) z h in
+      record { kind = k; place = mutator-within f; standing = mutator-stands (mover s c) (f .notes); buffered = buffered h }

@@ -5,14 +5,13 @@
 --     kept         a step from a well-formed state is well formed
 --     one-step     only one answer
 use mathlib.Core.Path.{_≡_, refl, sym, ap, _∙_, subst}
-use mathlib.Core.Bool.{Bool, true, false, false≢true}
-use mathlib.Core.Logic.{_⊎_, inl, inr, ⊎-elim, _↔_}
-use Prim.Native.Nat.{ℕ, zero, suc, _≤_, _<_}
+use mathlib.Core.Bool.{false≢true}
+use mathlib.Core.Logic.{_⊎_, inl, inr, ⊎-elim}
+use Prim.Native.Nat.{ℕ, _≤_, _<_}
 use native.Mathlib.Omega.{arith}
-use native.Mathlib.Decide.{ℕ-discrete, decLt}
-use lib.Dec.{eqb, leb}
+use native.Mathlib.Decide.{decLt}
+use lib.Dec.{leb}
 use borrow.Author.Tests.{leb-true, leb-false, lt-leb, ne-eqb, eq-eqb}
-use Rattle.base.specs.Pick.{pick}
 use Rattle.state.specs.declared.State.{State}
 use Rattle.state.specs.declared.Choice.{Choice}
 use Rattle.state.specs.declared.Answer.{Answer}
@@ -62,61 +61,37 @@ some s c k (reason.full e o w) = omega arith
 some s c k (reason.occupied e o w) = omega arith
 some s c k (reason.free e o) = omega arith
 
--- the reasons before 4: those that speak of the whole choice
+-- the reasons before 4, which speak of the whole choice: none below b holds where their checks are past
 module _ (s : State) (c : Choice) (w : WellFormed s) where
-  early-1 : (k : ℕ) → k < code.notThere → Reason s c k → ⊥
-  early-1 k l (reason.malformed e n) = n w
-  early-1 k l (reason.noProcess e n) = omega arith
-  early-1 k l (reason.noKind e n o) = omega arith
-  early-1 k l (reason.notOffered e n) = omega arith
-  early-1 k l (reason.nonePending e o v) = omega arith
-  early-1 k l (reason.flagDown e f) = omega arith
-  early-1 k l (reason.blocked e h) = omega arith
-  early-1 k l (reason.pending e v) = omega arith
-  early-1 k l (reason.full e o v) = omega arith
-  early-1 k l (reason.occupied e o v) = omega arith
-  early-1 k l (reason.free e o) = omega arith
+  early : (b : ℕ) → b ≤ code.notOffered → (code.notThere < b → c .process ≤ mutatorsOf s) → (code.noSuchKind < b → (c .kind ≡ 0) ⊎ (c .kind ≡ 1)) → (k : ℕ) → k < b → Reason s c k → ⊥
+  early b m h d k l (reason.malformed e n) = n w
+  early b m h d k l (reason.noProcess e n) = omega (arith, h (omega arith))
+  early b m h d k l (reason.noKind e n o) = ⊎-elim n o (d (omega arith))
+  early b m h d k l (reason.notOffered e n) = omega arith
+  early b m h d k l (reason.nonePending e o v) = omega arith
+  early b m h d k l (reason.flagDown e f) = omega arith
+  early b m h d k l (reason.blocked e i) = omega arith
+  early b m h d k l (reason.pending e v) = omega arith
+  early b m h d k l (reason.full e o v) = omega arith
+  early b m h d k l (reason.occupied e o v) = omega arith
+  early b m h d k l (reason.free e o) = omega arith
 
-  module _ (there : c .process ≤ mutatorsOf s) where
-    early-2 : (k : ℕ) → k < code.noSuchKind → Reason s c k → ⊥
-    early-2 k l (reason.malformed e n) = n w
-    early-2 k l (reason.noProcess e n) = omega arith
-    early-2 k l (reason.noKind e n o) = omega arith
-    early-2 k l (reason.notOffered e n) = omega arith
-    early-2 k l (reason.nonePending e o v) = omega arith
-    early-2 k l (reason.flagDown e f) = omega arith
-    early-2 k l (reason.blocked e h) = omega arith
-    early-2 k l (reason.pending e v) = omega arith
-    early-2 k l (reason.full e o v) = omega arith
-    early-2 k l (reason.occupied e o v) = omega arith
-    early-2 k l (reason.free e o) = omega arith
+  -- the view of an own step or a commit is one of the whole
+  module _ (there : c .process ≤ mutatorsOf s) (d : (c .kind ≡ 0) ⊎ (c .kind ≡ 1)) (R : State → Type 0) (f : (t : State) → R t → Row s c t) where
+    past : (k : ℕ) → k ≤ code.noSuchKind → Reason s c k → ⊥
+    past k l = early code.notOffered (omega arith) (λ _. there) (λ _. d) k (omega arith)
 
-    early : (c .kind ≡ 0) ⊎ (c .kind ≡ 1) → (k : ℕ) → k ≤ code.noSuchKind → Reason s c k → ⊥
-    early d k l (reason.malformed e n) = n w
-    early d k l (reason.noProcess e n) = omega arith
-    early d k l (reason.noKind e n o) = ⊎-elim n o d
-    early d k l (reason.notOffered e n) = omega arith
-    early d k l (reason.nonePending e o v) = omega arith
-    early d k l (reason.flagDown e f) = omega arith
-    early d k l (reason.blocked e h) = omega arith
-    early d k l (reason.pending e v) = omega arith
-    early d k l (reason.full e o v) = omega arith
-    early d k l (reason.occupied e o v) = omega arith
-    early d k l (reason.free e o) = omega arith
-
-    -- the view of an own step or a commit is one of the whole
-    module _ (d : (c .kind ≡ 0) ⊎ (c .kind ≡ 1)) (R : State → Type 0) (f : (t : State) → R t → Row s c t) where
-      whole-of : {a : Answer} → View R s c a → Whole s c a
-      whole-of (view.stops n l r) = stops n (omega arith) (record { holds = r .0; none-before = λ k u g. before k u g (decLt code.noSuchKind k) })
-        where
-          before : (k : ℕ) → k < n → Reason s c k → Dec (code.noSuchKind < k) → ⊥
-          before k u g (yes h) = r .1 k h u g
-          before k u g (no h) = early d k (omega arith) g
-      whole-of (view.goes {t} q r) = goes w (λ k g. clear k g (decLt code.noSuchKind k)) (f t r)
-        where
-          clear : (k : ℕ) → Reason s c k → Dec (code.noSuchKind < k) → ⊥
-          clear k g (yes h) = q k h g
-          clear k g (no h) = early d k (omega arith) g
+    whole-of : {a : Answer} → View R s c a → Whole s c a
+    whole-of (view.stops n l r) = stops n (omega arith) (record { holds = r .0; none-before = λ k u g. before k u g (decLt code.noSuchKind k) })
+      where
+        before : (k : ℕ) → k < n → Reason s c k → Dec (code.noSuchKind < k) → ⊥
+        before k u g (yes h) = r .1 k h u g
+        before k u g (no h) = past k (omega arith) g
+    whole-of (view.goes {t} q r) = goes w (λ k g. clear k g (decLt code.noSuchKind k)) (f t r)
+      where
+        clear : (k : ℕ) → Reason s c k → Dec (code.noSuchKind < k) → ⊥
+        clear k g (yes h) = q k h g
+        clear k g (no h) = past k (omega arith) g
 
 -- an own step, by its program
 own-whole : (s : State) (c : Choice) (w : WellFormed s) → c .process ≤ mutatorsOf s → c .kind ≡ 0 → Whole s c (ownStep s c)
@@ -135,13 +110,13 @@ inner-whole s c w =
     let some-processes = w .memory .some-processes in
     pick-ind (Whole s c) (leb (s .memory .processes) (c .process))
     (λ t. let l = leb-true (s .memory .processes) (c .process) t in
-    stops code.notThere (omega arith) (record { holds = reason.noProcess refl (omega arith); none-before = early-1 s c w }))
+    stops code.notThere (omega arith) (record { holds = reason.noProcess refl (omega arith); none-before = early s c w code.notThere (omega arith) (λ i. absurd (omega arith)) (λ i. absurd (omega arith)) }))
     (λ t. let l = leb-false (s .memory .processes) (c .process) t in
     let h : c .process ≤ mutatorsOf s = omega arith in
     pick-no (Whole s c) (c .kind) 0 (own-whole s c w h)
     (λ n. pick-no (Whole s c) (c .kind) 1
     (λ k. whole-of s c w h (inr k) (Row s c) (λ t r. r) (commit-view s c k (buffered s c w h .shaped) h))
-    (λ o. stops code.noSuchKind (omega arith) (record { holds = reason.noKind refl n o; none-before = early-2 s c w h }))))
+    (λ o. stops code.noSuchKind (omega arith) (record { holds = reason.noKind refl n o; none-before = early s c w code.noSuchKind (omega arith) (λ i. h) (λ i. absurd (omega arith)) }))))
 
 whole : (s : State) (c : Choice) → Whole s c (stepOf s c)
 unfolding stepOf

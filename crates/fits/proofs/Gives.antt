@@ -1,23 +1,26 @@
 -- What a well-formed process has in use at its place. The converse is the constructor of the place: `idle`, `mark-old`, .. of `MutatorAt`, `plain`, .. of `CollectorAt`. Assumes nothing.
---     idle-at, mark-old-at, mark-y-at, write-at, roots-first-at, roots-rest-at       a mutator, by its place
---     plain-at, round-at, scan-at, scan-mark-at, sweep-at, sweep-free-at             the collector, by its place
---     mark-begins, mark-looks, mark-goes-on, mark-greys                              the notes of a mark, from stage to stage
---     shaken, shakes       a mutator's lists and its part in the handshakes are in use at every place
---     nothing-left                                                                   nothing left is within 1 to n
+--     idle-at, mark-old-at, mark-y-at, write-at, roots-at      a mutator, by its place
+--     roots-first-at, roots-rest-at                            where it marks roots, by its stage
+--     plain-at, round-at, scan-at, scan-mark-at, sweep-at, sweep-free-at      the collector, by its place
+--     mutator-within, collector-within                         each stands at a place of its own program
+--     mark-begins, mark-looks, mark-goes-on, mark-greys        the notes of a mark, from stage to stage
+--     shaken, shakes, lists                                    a mutator's lists and its part in the handshakes are in use at every place
 use mathlib.Core.Path.{_≡_, refl}
 use mathlib.Core.Bool.{Bool, true, false, false≢true}
-use mathlib.Core.Logic.{inl, inr}
+use mathlib.Core.Logic.{_⊎_, inl, inr, ⊎-elim}
 use Prim.Native.Nat.{ℕ, _≤_, _<_}
 use native.Mathlib.Omega.{arith}
-use Rattle.cells.specs.Sets.{noCells, belowOf}
-use Rattle.cells.proofs.Belows.{below-empty}
+use lib.Dec.{leb}
+use borrow.Author.Tests.{leb-true}
+use Rattle.base.proofs.Everies.{and-both}
+use Rattle.cells.specs.Sets.{belowOf}
 use Rattle.buffers.specs.Fits.{IsCell}
 use Rattle.state.specs.declared.Process.{Process}
 use Rattle.state.specs.declared.Handshake.{Handshake}
-use Rattle.state.specs.Codes.{storeMarkOld, storeMarkY, storeWrite, rootsMark, row10Look, row10Free, lookStage, senseStage, unlockStage}
+use Rattle.state.specs.Codes.{storeMarkOld, storeMarkY, storeWrite, rootsMark, workFinish, row1Round, row10Look, row10Free, row11Write, lookStage, senseStage, unlockStage}
 use Rattle.state.specs.States.{listing, shaking}
 use Rattle.fits.specs.Fits.{Among, idlePlaces, plainPlaces, roundPlaces, scanPlaces, scanMarkPlaces, MarkNotes, Idle, StoreMark, StoreWrite, RootsFirst, RootsRest, MutatorAt, idle, mark-old, mark-y, write, roots-first, roots-rest, MutatorFits, Plain, Round, Scan, ScanMark, Sweep, SweepFree, CollectorAt, plain, round, scan, scan-mark, sweep, sweep-free, CollectorFits}
-use Rattle.fits.proofs.Places.{apart}
+use Rattle.fits.proofs.Places.{apart, idle-mutator, isCollectors, plain-collector, round-collector, scan-collector, scan-mark-collector}
 
 -- ---- a mutator
 module _ (n : ℕ) (q : Process) where
@@ -53,21 +56,13 @@ module _ (n : ℕ) (q : Process) where
   write-in (roots-first g w) e = absurd (omega arith)
   write-in (roots-rest g w) e = absurd (omega arith)
 
-  roots-first-in : MutatorAt n q → q .place ≡ rootsMark → q .stage ≡ lookStage → RootsFirst n q
-  roots-first-in (idle g w) e k = absurd (false≢true (rw e at g))
-  roots-first-in (mark-old g w) e k = absurd (omega arith)
-  roots-first-in (mark-y g w) e k = absurd (omega arith)
-  roots-first-in (write g w) e k = absurd (omega arith)
-  roots-first-in (roots-first g w) e k = w
-  roots-first-in (roots-rest g w) e k = absurd (omega arith)
-
-  roots-rest-in : MutatorAt n q → q .place ≡ rootsMark → lookStage < q .stage → RootsRest n q
-  roots-rest-in (idle g w) e k = absurd (false≢true (rw e at g))
-  roots-rest-in (mark-old g w) e k = absurd (omega arith)
-  roots-rest-in (mark-y g w) e k = absurd (omega arith)
-  roots-rest-in (write g w) e k = absurd (omega arith)
-  roots-rest-in (roots-first g w) e k = absurd (omega arith)
-  roots-rest-in (roots-rest g w) e k = w
+  roots-in : MutatorAt n q → q .place ≡ rootsMark → RootsFirst n q ⊎ RootsRest n q
+  roots-in (idle g w) e = absurd (false≢true (rw e at g))
+  roots-in (mark-old g w) e = absurd (omega arith)
+  roots-in (mark-y g w) e = absurd (omega arith)
+  roots-in (write g w) e = absurd (omega arith)
+  roots-in (roots-first g w) e = inl w
+  roots-in (roots-rest g w) e = inr w
 
 -- the place is k, one of the group: `idle-at noopFence refl e w`
 pub idle-at : {n : ℕ} {q : Process} (k : ℕ) → Among k idlePlaces → q .place ≡ k → MutatorFits n q → Idle q
@@ -82,11 +77,14 @@ mark-y-at {n} {q} e w = mark-y-in n q (w .notes) e
 pub write-at : {n : ℕ} {q : Process} → q .place ≡ storeWrite → MutatorFits n q → StoreWrite n q
 write-at {n} {q} e w = write-in n q (w .notes) e
 
-pub roots-first-at : {n : ℕ} {q : Process} → q .place ≡ rootsMark → q .stage ≡ lookStage → MutatorFits n q → RootsFirst n q
-roots-first-at {n} {q} e k w = roots-first-in n q (w .notes) e k
+pub roots-at : {n : ℕ} {q : Process} → q .place ≡ rootsMark → MutatorFits n q → RootsFirst n q ⊎ RootsRest n q
+roots-at {n} {q} e w = roots-in n q (w .notes) e
 
-pub roots-rest-at : {n : ℕ} {q : Process} → q .place ≡ rootsMark → lookStage < q .stage → MutatorFits n q → RootsRest n q
-roots-rest-at {n} {q} e k w = roots-rest-in n q (w .notes) e k
+pub roots-first-at : {n : ℕ} {q : Process} → q .place ≡ rootsMark → q .stage ≡ lookStage → MutatorFits n q → RootsFirst n q
+roots-first-at e k w = ⊎-elim (λ a. a) (λ a. absurd (omega (arith, a .named))) (roots-at e w)
+
+pub roots-rest-at : {n : ℕ} {q : Process} → q .place ≡ rootsMark → (q .stage ≡ lookStage → ⊥) → MutatorFits n q → RootsRest n q
+roots-rest-at e k w = ⊎-elim (λ a. absurd (k (a .stage))) (λ a. a) (roots-at e w)
 
 -- ---- the collector
 module _ (n m : ℕ) (q : Process) where
@@ -156,10 +154,36 @@ sweep-at {n} {m} {q} e w = sweep-in n m q (w .notes) e
 pub sweep-free-at : {n m : ℕ} {q : Process} → q .place ≡ row10Free → CollectorFits n m q → SweepFree n q
 sweep-free-at {n} {m} {q} e w = sweep-free-in n m q (w .notes) e
 
+-- ---- the two programs have no place in common
+pub mutator-within : {n : ℕ} {q : Process} → MutatorFits n q → q .place ≤ workFinish
+mutator-within {n} {q} w = go (w .notes)
+  where
+    go : MutatorAt n q → q .place ≤ workFinish
+    go (idle g v) = leb-true _ _ (idle-mutator (q .place) g)
+    go (mark-old g v) = omega arith
+    go (mark-y g v) = omega arith
+    go (write g v) = omega arith
+    go (roots-first g v) = omega arith
+    go (roots-rest g v) = omega arith
+
+pub collector-within : {n m : ℕ} {q : Process} → CollectorFits n m q → (row1Round ≤ q .place) × (q .place ≤ row11Write)
+collector-within {n} {m} {q} w = go (w .notes)
+  where
+    both : isCollectors (q .place) ≡ true → (row1Round ≤ q .place) × (q .place ≤ row11Write)
+    both e = let a = and-both (leb row1Round (q .place)) (leb (q .place) row11Write) e in (leb-true _ _ (a .0), leb-true _ _ (a .1))
+
+    go : CollectorAt n m q → (row1Round ≤ q .place) × (q .place ≤ row11Write)
+    go (plain g v) = both (plain-collector (q .place) g)
+    go (round g v) = both (round-collector (q .place) g)
+    go (scan g v) = both (scan-collector (q .place) g)
+    go (scan-mark g v) = both (scan-mark-collector (q .place) g)
+    go (sweep g v) = (omega arith, omega arith)
+    go (sweep-free g v) = (omega arith, omega arith)
+
 -- ---- the notes of a mark: it begins; the first look is noted; a stage between the second and the last; the write, which greys c
-pub mark-begins : {n c : ℕ} → IsCell n c → MarkNotes n lookStage c false 0
-mark-begins h =
-    record { is-cell = h; begun = omega arith; running = omega arith; no-look = λ l. refl; no-grey = λ l. refl; is-grey = inl refl }
+pub mark-begins : {n c g : ℕ} {l : Bool} → IsCell n c → l ≡ false → g ≡ 0 → MarkNotes n lookStage c l g
+mark-begins h e z =
+    record { is-cell = h; begun = omega arith; running = omega arith; no-look = λ _. e; no-grey = λ _. z; is-grey = inl z }
 
 pub mark-looks : {n s c g : ℕ} {l : Bool} → MarkNotes n s c l g → s ≡ lookStage → (b : Bool) → MarkNotes n senseStage c b g
 mark-looks w e b =
@@ -173,9 +197,6 @@ pub mark-greys : {n s c g : ℕ} {l : Bool} → MarkNotes n s c l g → MarkNote
 mark-greys w =
     record { is-cell = w .is-cell; begun = omega arith; running = omega arith; no-look = λ i. absurd (omega arith); no-grey = λ i. absurd (omega arith); is-grey = inr refl }
 
-pub nothing-left : (n : ℕ) (l : ℕ) → l ≡ noCells → belowOf l n ≡ true
-nothing-left n l e = rw e (below-empty n)
-
 -- ---- what is always in use may change
 pub shaken : {n : ℕ} {q : Process} (w r : ℕ) (a b : Bool) (h : Handshake) → MutatorAt n q → MutatorAt n (listing w r (shaking a b h q))
 shaken w r a b h (idle g v) = idle g (record { stage = v .stage; notes = v .notes; left = v .left; mark = v .mark; sense = v .sense })
@@ -188,3 +209,7 @@ shaken w r a b h (roots-rest g v) = roots-rest g (record { named = v .named; not
 -- a flag raised or lowered, a bit set, a phase advanced
 pub shakes : {n : ℕ} {q : Process} (a b : Bool) (h : Handshake) → MutatorFits n q → MutatorFits n (shaking a b h q)
 shakes {n} {q} a b h w = record { roots = w .roots; work = w .work; notes = shaken (q .work) (q .roots) a b h (w .notes) }
+
+-- other lists
+pub lists : {n : ℕ} {q : Process} (w r : ℕ) → MutatorFits n q → belowOf w n ≡ true → belowOf r n ≡ true → MutatorFits n (listing w r q)
+lists {n} {q} w r f a b = record { roots = b; work = a; notes = shaken w r (q .part .raised) (q .part .in_step) (q .part .phase) (f .notes) }

@@ -1,14 +1,16 @@
 -- A part of a well-formed state replaced by one that fits leaves it well formed. Assumes nothing.
 --     process-same, process-other     process p after it was replaced, and the others
 --     mutators-most                   M is at most its limit
---     keeps-collector, keeps-mutator, keeps-process       a process
+--     keeps-processes                 all processes
+--     keeps-process, keeps-collector, keeps-mutator       one of them
 --     keeps-memory, keeps-hands       memory, and the system's part
 use mathlib.Core.Path.{_≡_, sym, _∙_}
 use mathlib.Core.Bool.{true}
-use Prim.Native.Nat.{ℕ, _-_, _≤_, _<_}
+use mathlib.Core.List.{List}
+use Prim.Native.Nat.{ℕ, _≤_, _<_}
 use native.Mathlib.Decide.{ℕ-discrete, decLt}
 use native.Mathlib.Omega.{arith}
-use lib.ListN.{length, length-set}
+use lib.ListN.{length, getD, length-set}
 use lib.Seq.{getD-set-same, getD-set-other}
 use Rattle.base.proofs.Lists.{beyond}
 use Rattle.cells.specs.Sets.{belowOf}
@@ -37,19 +39,23 @@ module _ (s : State) (w : WellFormed s) where
   sized-with : (p : ℕ) (q : Process) → length (withProcess s p q .procs) ≡ maxProcesses
   sized-with p q = length-set (s .procs) p q ∙ w .sized
 
-  -- process p: the collector, a mutator, or nobody
-  pub keeps-process : (p : ℕ) (q : Process) → (p ≡ 0 → CollectorFits (s .memory .cells) (mutatorsOf s) q) → (0 < p → p ≤ mutatorsOf s → MutatorFits (s .memory .cells) q) → (mutatorsOf s < p → q ≡ noProcess) → WellFormed (withProcess s p q)
-  keeps-process p q a b d =
+  -- ---- the processes
+  pub keeps-processes : (qs : List Process) → length qs ≡ maxProcesses → CollectorFits (s .memory .cells) (mutatorsOf s) (getD qs 0 noProcess) → ((p : ℕ) → 0 < p → p ≤ mutatorsOf s → MutatorFits (s .memory .cells) (getD qs p noProcess)) → ((p : ℕ) → mutatorsOf s < p → getD qs p noProcess ≡ noProcess) → WellFormed (record { memory = s .memory; procs = qs; hands = s .hands })
+  keeps-processes qs l c m n =
       record {
         memory = w .memory;
         fields = w .fields;
         pending = w .pending;
-        sized = sized-with p q;
-        collector = first (ℕ-discrete 0 p);
-        mutators = λ r h g. one r h g (ℕ-discrete r p);
-        nobody = λ r h. none r h (ℕ-discrete r p);
+        sized = l;
+        collector = c;
+        mutators = m;
+        nobody = n;
         hands = w .hands;
       }
+
+  -- process p: the collector, a mutator, or nobody
+  pub keeps-process : (p : ℕ) (q : Process) → (p ≡ 0 → CollectorFits (s .memory .cells) (mutatorsOf s) q) → (0 < p → p ≤ mutatorsOf s → MutatorFits (s .memory .cells) q) → (mutatorsOf s < p → q ≡ noProcess) → WellFormed (withProcess s p q)
+  keeps-process p q a b d = keeps-processes (withProcess s p q .procs) (sized-with p q) (first (ℕ-discrete 0 p)) (λ r h g. one r h g (ℕ-discrete r p)) (λ r h. none r h (ℕ-discrete r p))
     where
       first : Dec (0 ≡ p) → CollectorFits (s .memory .cells) (mutatorsOf s) (processOf (withProcess s p q) 0)
       first (yes e) = rw (← e, process-same s 0 q (w .sized) (omega arith)) (a (sym e))

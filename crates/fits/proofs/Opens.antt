@@ -6,7 +6,7 @@ use mathlib.Core.Logic.{_⊎_, ⊎-elim}
 use Prim.Native.Nat.{ℕ, zero, suc, _+_, _-_, _≤_, _<_}
 use native.Mathlib.Decide.{ℕ-discrete, decLt}
 use native.Mathlib.Omega.{arith}
-use lib.ListN.{getD, replicate}
+use lib.ListN.{getD, replicate, getD-replicate}
 use borrow.Author.Tests.{lt-ltb, le-ltb, eq-eqb, ne-eqb}
 use Rattle.base.proofs.Lists.{beyond, length-listed, listed-at}
 use Rattle.cells.specs.Sets.{memberOf}
@@ -34,11 +34,6 @@ none-at : (k p i : ℕ) → entryOf (getD (replicate k emptyBuffer) p noBuffer) 
 none-at zero p i = refl
 none-at (suc k) zero i = same-there maxStores noEntry i
 none-at (suc k) (suc p) i = none-at k p i
-
-empty-at : (k p : ℕ) → p < k → getD (replicate k emptyBuffer) p noBuffer ≡ emptyBuffer
-empty-at zero p l = absurd (omega arith)
-empty-at (suc k) zero l = refl
-empty-at (suc k) (suc p) l = empty-at k p (omega arith)
 
 module _ (h : Heap) (w : HeapFits h) where
   -- ---- memory
@@ -69,8 +64,8 @@ module _ (h : Heap) (w : HeapFits h) where
         holder = λ p e. absurd (omega arith);
         free-mark = free-mark-opens;
         free-field = w .free;
-        buffers = λ p l. rw (empty-at maxProcesses p (omega (arith, w .most))) (empty-fits (h .cells));
-        no-process = λ p l k. empty-at maxProcesses p k;
+        buffers = λ p l. rw (getD-replicate maxProcesses p emptyBuffer noBuffer (omega (arith, w .most))) (empty-fits (h .cells));
+        no-process = λ p l k. getD-replicate maxProcesses p emptyBuffer noBuffer k;
       }
 
   -- ---- values, and processes

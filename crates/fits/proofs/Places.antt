@@ -4,7 +4,7 @@
 --     MutatorPlace, CollectorPlace     the groups of places; mutator-place, collector-place: each place is in one
 --     uses-idle, uses-plain, uses-round, uses-scan, uses-scan-mark       the row of each group of several places
 use mathlib.Core.Path.{_≡_, refl, sym, _∙_}
-use mathlib.Core.Bool.{Bool, true, false, not, false≢true}
+use mathlib.Core.Bool.{Bool, true, not, false≢true}
 use mathlib.Core.List.{List, [], _∷_}
 use Prim.Native.Nat.{ℕ, zero, suc, _+_, _-_, _≤_, _<_}
 use native.Mathlib.Decide.{ℕ-discrete}

@@ -1,6 +1,6 @@
 -- The whole state: the test and the facts agree. Assumes nothing.
 --     well-formed      `wellFormedOf` holds exactly if `WellFormed` does
-use mathlib.Core.Path.{_≡_, refl}
+use mathlib.Core.Path.{_≡_}
 use mathlib.Core.Bool.{Bool, true, false}
 use mathlib.Core.List.{List}
 use mathlib.Core.Logic.{_↔_}
@@ -22,6 +22,7 @@ use Rattle.memory.specs.declared.Memory.{Memory}
 use Rattle.memory.specs.Memories.{maxCells, maxProcesses, atCell, fieldOf, noBuffer, bufferOf}
 use Rattle.sound.specs.WellFormed as sound
 use Rattle.sound.proofs.Wells as sounds
+use Rattle.sound.proofs.Shapes.{shaped}
 use Rattle.state.specs.declared.Process.{Process}
 use Rattle.state.specs.declared.State.{State}
 use Rattle.state.specs.States.{noProcess, mutatorsOf}
@@ -31,11 +32,7 @@ use Rattle.fits.proofs.Agrees.{mutator-told, mutator-test, collector-to
 
 -- memory is well formed: every buffer has room for its stores, that of a process above M too
 entries-sized : (m : Memory) → sound.WellFormed m → (p : ℕ) → p < maxProcesses → length (bufferOf m p .entries) ≡ maxStores
-entries-sized m w p h = go (decLt p (m .processes))
-  where
-    go : Dec (p < m .processes) → length (bufferOf m p .entries) ≡ maxStores
-    go (yes l) = w .buffers p l .sized
-    go (no l) = rw (w .no-process p (omega arith) h) refl
+entries-sized m w p h = shaped m w .sized p h .entries
 
 -- ---- values of fields
 either-le : (b : Bool) (x y n : ℕ) → x ≤ n → y ≤ n → pick b x y ≤ n

@@ -25,12 +25,13 @@ use Rattle.state.specs.declared.State.{State}
 use Rattle.state.specs.declared.Choice.{Choice}
 use Rattle.state.specs.Codes.{row2Read, row2Write, row4Write, row5Phase, row5Alloc, row6Take, row7Read0, row7Read1, row7Drop, row8Take, row9Write, row11Write, noStage, lookStage, fenceStage, raiseStage, pollStage}
 use Rattle.state.specs.States.{at, noting, leaving, marking, listing, mutatorsOf, processOf, withProcess, withMemory, withHands}
-use Rattle.fits.specs.Fits.{Among, roundPlaces, plainPlaces, scanPlaces, scanMarkPlaces, Unmarked, Plain, Round, Scan, CollectorAt, plain, round, scan, scan-mark, sweep, sweep-free, CollectorFits, WellFormed}
+use Rattle.fits.specs.Fits.{Among, roundPlaces, plainPlaces, scanMarkPlaces, Unmarked, Round, CollectorAt, plain, round, scan, scan-mark, sweep, sweep-free, CollectorFits, WellFormed}
+use Rattle.fits.proofs.Gives.{plain-at, round-at, scan-at, sweep-at, sweep-free-at, collector-within, mark-begins, shakes}
+use Rattle.fits.proofs.Keeps.{keeps-collector, keeps-mutator, keeps-hands}
 use Rattle.rows.specs.Rows.{seesValue, At, withList, Round as RoundRow, row1, row3, row4, row5, row6, row8, Collector, withProcesses, allOff, flagged}
 use Rattle.kept.specs.Kept.{Fits, collects}
 use Rattle.kept.proofs.Values.{write-ranged, free-ranged, seen-value}
-use Rattle.kept.proofs.Frames.{ranged, shaken-fits, hands-framed, collector-framed, mutator-framed, off-framed, moved}
-use Rattle.kept.proofs.Places.{at-plain, at-round, at-scan, at-sweep, at-sweep-free, no-mutator-mark}
+use Rattle.kept.proofs.Frames.{ranged, off-framed, moved}
 use Rattle.kept.proofs.Marking.{running, mark-fits, mark-memory}
 
 -- ---- the rounds of the table
@@ -73,7 +74,7 @@ module _ {n m : ℕ} {t : Process} where
       (record {
         is-x = x;
         left = l;
-        mark = record { is-cell = i; begun = omega arith; running = omega arith; no-look = λ _. k; no-grey = λ _. g; is-grey = inl g };
+        mark = rw e (mark-begins i k g);
       })
 
 module _ (s : State) (c : Choice) (q : Process) (w : WellFormed s) (f : CollectorFits (s .memory .cells) (mutatorsOf s) q) where
@@ -83,17 +84,11 @@ module _ (s : State) (c : Choice) (q : Process) (w : WellFormed s) (f : Collecto
   seen : {v : ℕ} (x i : ℕ) → lookFieldOf (s .memory) 0 x i ≡ seesValue v → v ≤ s .memory .cells
   seen {v} x i e = seen-value (s .memory) 0 x i v (ranged s w) e
 
-  plained : (k : ℕ) → Among k plainPlaces → q .place ≡ k → Plain q
-  plained k a e = at-plain (s .memory .cells) (mutatorsOf s) q (rw e a) (f .notes)
-
-  scanned : (k : ℕ) → Among k scanPlaces → q .place ≡ k → Scan (s .memory .cells) q
-  scanned k a e = at-scan (s .memory .cells) (mutatorsOf s) q (rw e a) (f .notes)
-
   rounded : {k j l i : ℕ} {t : Kind} → RoundRow k t j l → At k i q → Round (mutatorsOf s) q
-  rounded r a = at-round (s .memory .cells) (mutatorsOf s) q (rw (a .place) (round-place r)) (f .notes)
+  rounded r a = round-at _ (round-place r) (a .place) f
 
   goes : (t : Process) → CollectorFits (s .memory .cells) (mutatorsOf s) t → WellFormed (withProcess s 0 t)
-  goes t k = collector-framed s w t k
+  goes t k = keeps-collector s w t k
 
   -- a write of fM, fA or the phase, which holds no cell and no value
   wrote : (v : Store) {m : Memory} (t : Process) → StoreFits (s .memory .cells) v → valueOf v ≡ 0 → writeOf (s .memory) 0 (record { store = v }) ≡ taken m → CollectorFits (s .memory .cells) (mutatorsOf s) t → WellFormed (withProcess (withMemory s m) 0 t)
@@ -106,8 +101,8 @@ module _ (s : State) (c : Choice) (q : Process) (w : WellFormed s) (f : Collecto
   -- a flag is raised
   raised : (x : ℕ) (t : Process) → IsCell (mutatorsOf s) x → CollectorFits (s .memory .cells) (mutatorsOf s) t → WellFormed (withProcess (withProcess s x (flagged (processOf s x))) 0 t)
   raised x t i k =
-      collector-framed (withProcess s x (flagged (processOf s x)))
-      (mutator-framed s w x (flagged (processOf s x)) (i .0) (i .1) (shaken-fits true (processOf s x .part .in_step) (processOf s x .part .phase) (s .memory .cells) (processOf s x) (w .mutators x (i .0) (i .1)))) t k
+      keeps-collector (withProcess s x (flagged (processOf s x)))
+      (keeps-mutator s w x (flagged (processOf s x)) (i .0) (i .1) (shakes true (processOf s x .part .in_step) (processOf s x .part .phase) (w .mutators x (i .0) (i .1)))) t k
 
   -- one less is left in a round
   fewer : {k j l i : ℕ} {t : Kind} → RoundRow k t j l → At k i q → raiseStage ≤ i → CollectorFits (s .memory .cells) (mutatorsOf s) (leaving (removeOf (q .left) (c .x)) q)
@@ -135,8 +130,8 @@ module _ (s : State) (c : Choice) (q : Process) (w : WellFormed s) (f : Collecto
   -- the list taken
   took : (k v : ℕ) → Among k plainPlaces → belowOf v (s .memory .cells) ≡ true → (At row6Take noStage q) ⊎ (At row8Take noStage q) → WellFormed (withProcess (withHands s (withList (s .hands) noCells)) 0 (at k noStage (listing v (q .roots) q)))
   took k v a b h =
-      let d = ⊎-elim (λ (i : At row6Take noStage q). plained row6Take refl (i .place)) (λ (i : At row8Take noStage q). plained row8Take refl (i .place)) h in
-      collector-framed (withHands s (withList (s .hands) noCells)) (hands-framed s w (withList (s .hands) noCells) (below-empty (s .memory .cells))) _
+      let d = ⊎-elim (λ (i : At row6Take noStage q). plain-at row6Take refl (i .place) f) (λ (i : At row8Take noStage q). plain-at row8Take refl (i .place) f) h in
+      keeps-collector (withHands s (withList (s .hands) noCells)) (keeps-hands s w (withList (s .hands) noCells) (below-empty (s .memory .cells))) _
       (renoted f b (now-plain a refl (d .no-x) (d .left) (d .mark)))
 
   pub collector-kept : {t : State} → Collector s c 0 q t → WellFormed t
@@ -145,7 +140,7 @@ module _ (s : State) (c : Choice) (q : Process) (w : WellFormed s) (f : Collecto
       goes _ (renoted f (f .work) (round (round-place r) (record { begun = omega arith; running = omega arith; no-x = k .no-x; none-left = λ _. k .none-left (omega (arith, a .stage)); left = k .left; mark = k .mark })))
   collector-kept (Collector.types {t = t} r a b {h = h} v) =
       let hs : Hands = record { kind = t; phase = h; work = s .hands .work } in
-      collector-framed (withProcesses (withHands s hs) (allOff (s .procs))) (off-framed (withHands s hs) (hands-framed s w hs (w .hands))) _
+      keeps-collector (withProcesses (withHands s hs) (allOff (s .procs))) (off-framed (withHands s hs) (keeps-hands s w hs (w .hands))) _
       (filled r a raiseStage (omega arith) (omega arith))
   collector-kept (Collector.raises r a b m e) = raised (c .x) _ (below-range (q .left) (mutatorsOf s) (c .x) (rounded r a .left) m) (fewer r a (omega arith))
   collector-kept (Collector.raises-last r a b m e) = raised (c .x) _ (below-range (q .left) (mutatorsOf s) (c .x) (rounded r a .left) m) (filled r a pollStage (omega arith) (omega arith))
@@ -154,59 +149,59 @@ module _ (s : State) (c : Choice) (q : Process) (w : WellFormed s) (f : Collecto
   collector-kept (Collector.polls-last r a b m e h) =
       let k = rounded r a in
       goes _ (renoted f (f .work) (⊎-elim (λ i. now-plain (i .0) (i .1) (k .no-x) refl (k .mark)) (λ i. now-round (i .0) (i .1) (k .no-x) refl (k .mark)) (round-next r)))
-  collector-kept (Collector.reads-sense a b e) = let k = plained row2Read refl (a .place) in goes _ (renoted f (f .work) (now-plain refl refl (k .no-x) (k .left) (k .mark)))
+  collector-kept (Collector.reads-sense a b e) = let k = plain-at row2Read refl (a .place) f in goes _ (renoted f (f .work) (now-plain refl refl (k .no-x) (k .left) (k .mark)))
   collector-kept (Collector.writes-sense a b e) =
-      let k = plained row2Write refl (a .place) in wrote (store.Sense (not (q .sense))) _ tt refl e (renoted f (f .work) (now-round refl refl (k .no-x) (k .left) (k .mark)))
+      let k = plain-at row2Write refl (a .place) f in wrote (store.Sense (not (q .sense))) _ tt refl e (renoted f (f .work) (now-round refl refl (k .no-x) (k .left) (k .mark)))
   collector-kept (Collector.writes-init a b e) =
-      let k = plained row4Write refl (a .place) in wrote (store.Phase phase.Init) _ tt refl e (renoted f (f .work) (now-round refl refl (k .no-x) (k .left) (k .mark)))
+      let k = plain-at row4Write refl (a .place) f in wrote (store.Phase phase.Init) _ tt refl e (renoted f (f .work) (now-round refl refl (k .no-x) (k .left) (k .mark)))
   collector-kept (Collector.writes-mark a b e) =
-      let k = plained row5Phase refl (a .place) in wrote (store.Phase phase.Mark) _ tt refl e (renoted f (f .work) (now-plain refl refl (k .no-x) (k .left) (k .mark)))
+      let k = plain-at row5Phase refl (a .place) f in wrote (store.Phase phase.Mark) _ tt refl e (renoted f (f .work) (now-plain refl refl (k .no-x) (k .left) (k .mark)))
   collector-kept (Collector.writes-alloc a b e) =
-      let k = plained row5Alloc refl (a .place) in wrote (store.AllocSense (q .sense)) _ tt refl e (renoted f (f .work) (now-round refl refl (k .no-x) (k .left) (k .mark)))
+      let k = plain-at row5Alloc refl (a .place) f in wrote (store.AllocSense (q .sense)) _ tt refl e (renoted f (f .work) (now-round refl refl (k .no-x) (k .left) (k .mark)))
   collector-kept (Collector.takes a b h) = took row7Read0 (s .hands .work) refl (w .hands) a
   collector-kept (Collector.takes-none a b h) = took row9Write noCells refl (below-empty (s .memory .cells)) a
   collector-kept (Collector.reads-first a b m {v = v} e h) =
-      let k = plained row7Read0 refl (a .place) in
+      let k = plain-at row7Read0 refl (a .place) f in
       goes _ (renoted f (f .work) (now-mark refl refl (below-range (q .work) (s .memory .cells) (c .x) (f .work) m) (k .left) (omega arith, seen (c .x) 0 e) (k .mark .no-look) (k .mark .no-grey)))
   collector-kept (Collector.reads-first-null a b m e) =
-      let k = plained row7Read0 refl (a .place) in
+      let k = plain-at row7Read0 refl (a .place) f in
       goes _ (renoted f (f .work) (scan refl (record { stage = refl; is-x = below-range (q .work) (s .memory .cells) (c .x) (f .work) m; left = k .left; mark = k .mark })))
   collector-kept (Collector.marks b {r = r} k {m = m} {t = t} e) =
       let z : Fits (s .memory .cells) (mutatorsOf s) 0 q = collects refl f in
-      let u = running (s .memory .cells) (mutatorsOf s) 0 q z k (λ i _. no-mutator-mark (s .memory .cells) (mutatorsOf s) q (rw i refl) (f .notes)) in
+      let u = running (s .memory .cells) (mutatorsOf s) 0 q z k (λ i _. omega (arith, collector-within f .0)) in
       let v = mark-memory (s .memory) 0 r (w .memory) (ranged s w) here (u .notes .is-cell) e in
       moved s w m (v .0) (v .1) 0 t (omega arith) (mark-fits z u e)
   collector-kept (Collector.reads-second a b {v = v} e h) =
-      let k = scanned row7Read1 refl (a .place) in
+      let k = scan-at row7Read1 refl (a .place) f in
       goes _ (renoted f (f .work) (now-mark refl refl (k .is-x) (k .left) (omega arith, seen (q .x) 1 e) (k .mark .no-look) (k .mark .no-grey)))
   collector-kept (Collector.reads-second-null a b e) =
-      let k = scanned row7Read1 refl (a .place) in goes _ (renoted f (f .work) (scan refl (record { stage = refl; is-x = k .is-x; left = k .left; mark = k .mark })))
+      let k = scan-at row7Read1 refl (a .place) f in goes _ (renoted f (f .work) (scan refl (record { stage = refl; is-x = k .is-x; left = k .left; mark = k .mark })))
   collector-kept (Collector.drops a b h) =
-      let k = scanned row7Drop refl (a .place) in
+      let k = scan-at row7Drop refl (a .place) f in
       goes _ (renoted f (below-remove (q .work) (q .x) (s .memory .cells) (f .work)) (now-plain refl refl refl (k .left) (k .mark)))
   collector-kept (Collector.drops-last a b h) =
-      let k = scanned row7Drop refl (a .place) in
+      let k = scan-at row7Drop refl (a .place) f in
       goes _ (renoted f (below-empty (s .memory .cells)) (now-round refl refl refl (k .left) (k .mark)))
   collector-kept (Collector.writes-sweep a b e) =
-      let k = plained row9Write refl (a .place) in
+      let k = plain-at row9Write refl (a .place) f in
       wrote (store.Phase phase.Sweep) _ tt refl e (renoted f (f .work) (sweep refl (record { stage = refl; no-x = k .no-x; left = below-full (s .memory .cells); mark = k .mark })))
   collector-kept (Collector.spares a b m e h) =
-      let k = at-sweep (s .memory .cells) (mutatorsOf s) q (a .place) (f .notes) in
+      let k = sweep-at (a .place) f in
       goes _ (renoted f (f .work) (sweep (a .place) (record { stage = a .stage; no-x = k .no-x; left = below-remove (q .left) (c .x) (s .memory .cells) (k .left); mark = k .mark })))
   collector-kept (Collector.spares-last a b m e h) =
-      let k = at-sweep (s .memory .cells) (mutatorsOf s) q (a .place) (f .notes) in
+      let k = sweep-at (a .place) f in
       goes _ (renoted f (f .work) (now-plain refl refl (k .no-x) refl (k .mark)))
   collector-kept (Collector.condemns a b m e) =
-      let k = at-sweep (s .memory .cells) (mutatorsOf s) q (a .place) (f .notes) in
+      let k = sweep-at (a .place) f in
       goes _
       (renoted f (f .work)
       (sweep-free refl
       (record { stage = refl; is-x = below-range (q .left) (s .memory .cells) (c .x) (k .left) m; left = below-remove (q .left) (c .x) (s .memory .cells) (k .left); mark = k .mark })))
   collector-kept (Collector.frees a b e h) =
-      let k = at-sweep-free (s .memory .cells) (mutatorsOf s) q (a .place) (f .notes) in
+      let k = sweep-free-at (a .place) f in
       freed _ e (renoted f (f .work) (sweep refl (record { stage = refl; no-x = refl; left = k .left; mark = k .mark })))
   collector-kept (Collector.frees-last a b e h) =
-      let k = at-sweep-free (s .memory .cells) (mutatorsOf s) q (a .place) (f .notes) in
+      let k = sweep-free-at (a .place) f in
       freed _ e (renoted f (f .work) (now-plain refl refl refl h (k .mark)))
   collector-kept (Collector.writes-idle a b e) =
-      let k = plained row11Write refl (a .place) in wrote (store.Phase phase.Idle) _ tt refl e (renoted f (f .work) (now-round refl refl (k .no-x) (k .left) (k .mark)))
+      let k = plain-at row11Write refl (a .place) f in wrote (store.Phase phase.Idle) _ tt refl e (renoted f (f .work) (now-round refl refl (k .no-x) (k .left) (k .mark)))

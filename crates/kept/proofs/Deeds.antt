@@ -16,14 +16,15 @@ use Rattle.state.specs.declared.Process.{Process}
 use Rattle.state.specs.declared.State.{State}
 use Rattle.state.specs.declared.Choice.{Choice}
 use Rattle.state.specs.Codes.{top, storeMarkOld, storeMarkY, storeWrite, noopFence, noopFinish, rootsFence, rootsMark, rootsFinish, workFence, workFinish, row2Read, row2Write, row4Write, row5Phase, row5Alloc, row6Take, row7Read0, row7Mark0, row7Read1, row7Mark1, row7Drop, row8Take, row9Write, row10Look, row10Free, row11Write, noStage, lookStage, senseStage, phaseStage, lockStage, againStage, writeStage, unlockStage, fenceStage, typeStage, raiseStage, pollStage}
-use Rattle.state.specs.States.{at, mutatorsOf, processOf}
+use Rattle.state.specs.States.{at, processOf}
 use Rattle.rows.specs.Deeds.{Deed, cellOf, topDeed, markDeed, rowDeed, deedOf}
 use Rattle.rows.specs.Rows.{At, Marks, Mark, Mutator, Round, row1, row3, row4, row5, row6, row8, Collector, Row}
 use Rattle.rows.specs.Reasons.{mover}
 use Rattle.fits.specs.Fits.{WellFormed}
+use Rattle.fits.proofs.Gives.{collector-within}
+use Rattle.rows.proofs.Standing.{staged}
 use Rattle.kept.specs.Deeds.{Does}
 use Rattle.kept.proofs.Frames.{named}
-use Rattle.kept.proofs.Places.{no-mutator-mark}
 
 does : {d e : Deed} → d ≡ e → (p : ℕ) (m n : Memory) → Does e p m n → Does d p m n
 does h p m n a = rw h a
@@ -31,10 +32,7 @@ does h p m n a = rw h a
 -- ---- the deed at a place and stage
 module _ (c : Choice) (q : Process) where
   at-place : (k j : ℕ) → At k j q → deedOf c q ≡ deedOf c (at k j q)
-  at-place k j a = go (q .place) (q .stage) (a .place) (a .stage)
-    where
-      go : (x y : ℕ) → x ≡ k → y ≡ j → deedOf c (at x y q) ≡ deedOf c (at k j q)
-      go x y e h = rw (e, h) refl
+  at-place k j a = staged (deedOf c) q (a .place) (a .stage)
 
   -- at top, by the operation
   op-deed : (o : ℕ) → c .op ≡ o → topDeed c ≡ pick (eqb o 0) (Deed.allocates (c .x)) (pick (eqb o 2) (Deed.reads (spot.Field (c .x) (c .f))) (pick (eqb o 3) (Deed.reads (spot.Field (c .x) (c .f))) (pick (eqb o 4) Deed.fences Deed.apart)))
@@ -148,6 +146,6 @@ module _ (s : State) (c : Choice) (p : ℕ) (q : Process) where
 pub row-deed : {s t : State} {c : Choice} → WellFormed s → c .kind ≡ 0 → Row s c t → Does (deedOf c (mover s c)) (c .process) (s .memory) (t .memory)
 row-deed {s} {t} {c} w k (Row.collector z e r) =
     named (λ i. Does (deedOf c (processOf s i)) i (s .memory) (t .memory)) e
-    (collector-does s c 0 (processOf s 0) (λ a _. no-mutator-mark (s .memory .cells) (mutatorsOf s) (processOf s 0) (rw a refl) (w .collector .notes)) r)
+    (collector-does s c 0 (processOf s 0) (λ a _. omega (arith, collector-within (w .collector) .0)) r)
 row-deed {s} {t} {c} w k (Row.mutator z {p = p} e pos mine r) = named (λ i. Does (deedOf c (processOf s i)) i (s .memory) (t .memory)) e (mutator-does s c p (processOf s p) r)
 row-deed w k (Row.commits z e mine b h) = absurd (omega arith)

@@ -21,12 +21,13 @@ use Rattle.state.specs.declared.Choice.{Choice}
 use Rattle.state.specs.Codes.{raiseStage}
 use Rattle.state.specs.States.{noProcess, mutatorsOf, processOf, withProcess}
 use Rattle.fits.specs.Fits.{WellFormed}
+use Rattle.fits.proofs.Gives.{round-at}
+use Rattle.fits.proofs.Keeps.{process-same, process-other, mutators-most}
 use Rattle.rows.specs.Rows.{At, Marks, Mark, Mutator, Round, allOff, flagged, Collector, Row}
 use Rattle.rows.specs.Reasons.{mover}
 use Rattle.kept.specs.Leaves.{Writes, Stored, Occupied, Handed, Beside, Changed}
 use Rattle.kept.specs.Kept.{Counted}
-use Rattle.kept.proofs.Frames.{named, within, same-process, other-process, off-process}
-use Rattle.kept.proofs.Places.{at-round}
+use Rattle.kept.proofs.Frames.{named, off-process}
 use Rattle.kept.proofs.Memories.{write-settled, commit-settled, lock-settled, unlock-settled, allocate-counted, free-counted, allocate-used, free-used}
 use Rattle.kept.proofs.Collector.{round-place}
 
@@ -141,21 +142,21 @@ module _ (s : State) (c : Choice) (p x : ℕ) (w : WellFormed s) (h : x ≡ p �
   in-round : {k j l : ℕ} {t : Kind} → p ≡ 0 → Round k t j l → At k raiseStage (processOf s p) → Member (processOf s p .left) (c .x) → c .x ≤ mutatorsOf s
   in-round {k} e r =
       named (λ i. At k raiseStage (processOf s i) → Member (processOf s i .left) (c .x) → c .x ≤ mutatorsOf s) e
-      (λ a m. below-range (processOf s 0 .left) (mutatorsOf s) (c .x) (at-round (s .memory .cells) (mutatorsOf s) (processOf s 0) (rw (a .place) (round-place r)) (w .collector .notes) .left) m .1)
+      (λ a m. below-range (processOf s 0 .left) (mutatorsOf s) (c .x) (round-at k (round-place r) (a .place) (w .collector) .left) m .1)
 
   -- its flag is raised
   flag : {k j l : ℕ} {t : Kind} → Round k t j l → At k raiseStage (processOf s p) → c .x ≤ mutatorsOf s → Dec (x ≡ c .x) →
       Beside c (processOf s p) x (processOf s x) (processOf (withProcess s (c .x) (flagged (processOf s (c .x)))) x)
-  flag r a l (no e) = rw (other-process s (c .x) x (flagged (processOf s (c .x))) e) Beside.same
+  flag r a l (no e) = rw (process-other s (c .x) x (flagged (processOf s (c .x))) e) Beside.same
   flag r a l (yes e) =
       named (λ i. Beside c (processOf s p) x (processOf s x) (processOf (withProcess s (c .x) (flagged (processOf s (c .x)))) i)) e
-      (rw (same-process s (c .x) (flagged (processOf s (c .x))) (within s w (c .x) l)) (named (λ i. Beside c (processOf s p) x (processOf s x) (flagged (processOf s i))) (sym e) (Beside.raises r a e)))
+      (rw (process-same s (c .x) (flagged (processOf s (c .x))) (w .sized) (omega (arith, mutators-most s w))) (named (λ i. Beside c (processOf s p) x (processOf s x) (flagged (processOf s i))) (sym e) (Beside.raises r a e)))
 
   changed-others : {t : State} → Changed s c p (processOf s p) t → Beside c (processOf s p) x (processOf s x) (processOf t x)
-  changed-others (Changed.stores k o) = rw (other-process s p x o h) Beside.same
-  changed-others (Changed.hands k o) = rw (other-process s p x o h) Beside.same
+  changed-others (Changed.stores k o) = rw (process-other s p x o h) Beside.same
+  changed-others (Changed.hands k o) = rw (process-other s p x o h) Beside.same
   changed-others (Changed.types z r a v o) = rw (getD-set-other (allOff (s .procs)) p x o noProcess h, off-process s x (omega arith)) (Beside.types r a)
-  changed-others (Changed.raises z r a m o) = rw (other-process (withProcess s (c .x) (flagged (processOf s (c .x)))) p x o h) (flag r a (in-round z r a m) (ℕ-discrete x (c .x)))
+  changed-others (Changed.raises z r a m o) = rw (process-other (withProcess s (c .x) (flagged (processOf s (c .x)))) p x o h) (flag r a (in-round z r a m) (ℕ-discrete x (c .x)))
   changed-others (Changed.commits k e) = Beside.same
 
 -- ---- of every row

@@ -1,6 +1,5 @@
 pub mod Values
 pub mod Frames
-pub mod Places
 pub mod Marking
 pub mod Mutator
 pub mod Collector

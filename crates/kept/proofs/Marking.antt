@@ -1,12 +1,11 @@
 -- A step of a mark, at any of its five sites: the process fits at its new place, and memory stays well formed. Assumes nothing.
---     noted            the notes of a mark past its first look
 --     Running, running      what a process in a mark holds, and how it goes on
 --     next-fits        after a mark the process fits where its program goes on
 --     mark-fits        after each step of a mark the process fits
 --     mark-memory      memory after each step of a mark
 use mathlib.Core.Path.{_≡_, refl}
 use mathlib.Core.Bool.{Bool, true, false, not}
-use mathlib.Core.Logic.{inl, inr, ⊎-elim}
+use mathlib.Core.Logic.{⊎-elim}
 use Prim.Native.Nat.{ℕ, _≤_, _<_}
 use native.Mathlib.Omega.{arith}
 use lib.Dec.{eqb}
@@ -20,22 +19,13 @@ use Rattle.memory.specs.declared.Memory.{Memory}
 use Rattle.sound.specs.WellFormed as sound
 use Rattle.sound.proofs.Kept.{write-kept, lock-kept, unlock-kept}
 use Rattle.state.specs.declared.Process.{Process}
-use Rattle.state.specs.Codes.{rootsMark, lookStage, senseStage, phaseStage, lockStage, againStage, writeStage, unlockStage}
+use Rattle.state.specs.Codes.{rootsMark, row7Mark0, row7Mark1, lookStage, senseStage, phaseStage, lockStage, againStage, writeStage, unlockStage}
 use Rattle.state.specs.States.{at, marking, listing}
-use Rattle.fits.specs.Fits.{Among, scanMarkPlaces, MarkNotes, StoreMark, RootsRest, MutatorAt, idle, mark-old, mark-y, write, roots-first, roots-rest, MutatorFits, CollectorAt, scan, scan-mark, CollectorFits}
+use Rattle.fits.specs.Fits.{Among, scanMarkPlaces, MarkNotes, Unmarked, StoreMark, RootsRest, MutatorAt, idle, mark-old, mark-y, write, roots-first, roots-rest, MutatorFits, CollectorAt, scan, scan-mark, CollectorFits}
+use Rattle.fits.proofs.Gives.{mark-old-at, mark-y-at, roots-at, roots-rest-at, scan-mark-at, mutator-within, collector-within, mark-begins, mark-looks, mark-goes-on, mark-greys}
 use Rattle.rows.specs.Rows.{unnoted, Marks, Next, Mark}
 use Rattle.kept.specs.Kept.{Fits, collects, mutates, Ranged}
 use Rattle.kept.proofs.Values.{write-ranged, lock-ranged, unlock-ranged}
-use Rattle.kept.proofs.Places.{at-old, at-y, at-roots, at-scan-mark, no-scan-mark, no-mutator-mark}
-
--- ---- the notes of a mark
--- past the first look, with nothing being greyed
-pub noted : {n r g : ℕ} (j : ℕ) (l : Bool) → IsCell n r → g ≡ 0 → lookStage < j → j ≤ unlockStage → MarkNotes n j r l g
-noted j l c e a b = record { is-cell = c; begun = omega arith; running = b; no-look = λ h. absurd (omega arith); no-grey = λ h. e; is-grey = inl e }
-
--- at the unlock, r being greyed
-greying : {n r : ℕ} (l : Bool) → IsCell n r → MarkNotes n unlockStage r l r
-greying l c = record { is-cell = c; begun = omega arith; running = omega arith; no-look = λ h. absurd (omega arith); no-grey = λ h. absurd (omega arith); is-grey = inr refl }
 
 -- ---- in a mark of r
 pub record Running (n m p r : ℕ) (q : Process) : Type 0 where
@@ -75,7 +65,7 @@ module _ (n m p : ℕ) (q : Process) where
 
   scanning : p ≡ 0 → Among (q .place) scanMarkPlaces → CollectorFits n m q → Running n m p (q .cell) q
   scanning z a f =
-      let k = at-scan-mark n m q a (f .notes) in
+      let k = scan-mark-at (q .place) a refl f in
       record {
         notes = k .mark;
         sense = λ h _. absurd (omega arith);
@@ -94,18 +84,21 @@ module _ (n m p : ℕ) (q : Process) where
       }
 
   pub running : {r : ℕ} → Fits n m p q → Marks q r → (q .place ≡ rootsMark → q .stage ≡ lookStage → ⊥) → Running n m p r q
-  running (mutates pos f) (Marks.old e) h = storing (q .old) pos f (at-old n q e (f .notes)) (λ j l b g. mark-old e)
-  running (mutates pos f) (Marks.new e) h = storing (q .y) pos f (at-y n q e (f .notes)) (λ j l b g. mark-y e)
-  running (mutates pos f) (Marks.root e) h = ⊎-elim (λ k. absurd (h e (k .stage))) (rooting pos e f) (at-roots n q e (f .notes))
-  running (mutates pos f) (Marks.first e) h = absurd (no-scan-mark n q (rw e refl) (f .notes))
-  running (mutates pos f) (Marks.second e) h = absurd (no-scan-mark n q (rw e refl) (f .notes))
-  running (collects z f) (Marks.old e) h = absurd (no-mutator-mark n m q (rw e refl) (f .notes))
-  running (collects z f) (Marks.new e) h = absurd (no-mutator-mark n m q (rw e refl) (f .notes))
-  running (collects z f) (Marks.root e) h = absurd (no-mutator-mark n m q (rw e refl) (f .notes))
+  running (mutates pos f) (Marks.old e) h = storing (q .old) pos f (mark-old-at e f) (λ j l b g. mark-old e)
+  running (mutates pos f) (Marks.new e) h = storing (q .y) pos f (mark-y-at e f) (λ j l b g. mark-y e)
+  running (mutates pos f) (Marks.root e) h = rooting pos e f (roots-rest-at e (h e) f)
+  running (mutates pos f) (Marks.first e) h = absurd (omega (arith, mutator-within f))
+  running (mutates pos f) (Marks.second e) h = absurd (omega (arith, mutator-within f))
+  running (collects z f) (Marks.old e) h = absurd (omega (arith, collector-within f .0))
+  running (collects z f) (Marks.new e) h = absurd (omega (arith, collector-within f .0))
+  running (collects z f) (Marks.root e) h = absurd (omega (arith, collector-within f .0))
   running (collects z f) (Marks.first e) h = scanning z (rw e refl) f
   running (collects z f) (Marks.second e) h = scanning z (rw e refl) f
 
 -- ---- after a mark
+unmarked : Unmarked 0 false 0
+unmarked = record { no-cell = refl; no-look = refl; no-grey = refl }
+
 -- q with the notes of its mark zeroed, and the work list w; the collector has noted b
 abbrev ended : ℕ → Bool → ℕ → Process → Process
 ended p b w q = marking 0 false (pick (eqb p 0) b false) 0 (listing w (q .roots) q)
@@ -122,10 +115,10 @@ module _ (n m p : ℕ) (q : Process) (b : Bool) (w : ℕ) (below : belowOf w n �
 
   pub next-fits : {t : Process} → Fits n m p q → Next (ended p b w q) t → Fits n m p t
   next-fits (mutates pos f) (Next.write e y) =
-      let k = at-old n q e (f .notes) in
-      after-mutator pos f (write refl (record { stage = refl; notes = k .notes; left = k .left; mark = record { no-cell = refl; no-look = refl; no-grey = refl }; sense = unsensed pos }))
+      let k = mark-old-at e f in
+      after-mutator pos f (write refl (record { stage = refl; notes = k .notes; left = k .left; mark = unmarked; sense = unsensed pos }))
   next-fits (mutates pos f) (Next.new e y) =
-      let k = at-old n q e (f .notes) in
+      let k = mark-old-at e f in
       let c : IsCell n (q .y) = (omega arith, k .notes .is-y) in
       after-mutator pos f
       (mark-y refl
@@ -133,37 +126,37 @@ module _ (n m p : ℕ) (q : Process) (b : Bool) (w : ℕ) (below : belowOf w n �
         notes = k .notes;
         left = k .left;
         cell = refl;
-        mark = record { is-cell = c; begun = omega arith; running = omega arith; no-look = λ h. refl; no-grey = λ h. refl; is-grey = inl refl };
+        mark = mark-begins c refl refl;
         sense = λ h. unsensed pos;
       }))
   next-fits (mutates pos f) (Next.marked e) =
-      let k = at-y n q e (f .notes) in
-      after-mutator pos f (write refl (record { stage = refl; notes = k .notes; left = k .left; mark = record { no-cell = refl; no-look = refl; no-grey = refl }; sense = unsensed pos }))
+      let k = mark-y-at e f in
+      after-mutator pos f (write refl (record { stage = refl; notes = k .notes; left = k .left; mark = unmarked; sense = unsensed pos }))
   next-fits (mutates pos f) (Next.roots e z) =
-      let u = ⊎-elim (λ k. k .notes) (λ k. k .notes) (at-roots n q e (f .notes)) in
-      after-mutator pos f (idle refl (record { stage = refl; notes = u; left = z; mark = record { no-cell = refl; no-look = refl; no-grey = refl }; sense = unsensed pos }))
+      let u = ⊎-elim (λ k. k .notes) (λ k. k .notes) (roots-at e f) in
+      after-mutator pos f (idle refl (record { stage = refl; notes = u; left = z; mark = unmarked; sense = unsensed pos }))
   next-fits (mutates pos f) (Next.root e z) =
-      let u = ⊎-elim (λ k. k .notes) (λ k. k .notes) (at-roots n q e (f .notes)) in
-      let l = ⊎-elim (λ k. k .left) (λ k. k .left) (at-roots n q e (f .notes)) in
-      after-mutator pos f (roots-first refl (record { stage = refl; notes = u; left = l; mark = record { no-cell = refl; no-look = refl; no-grey = refl }; sense = unsensed pos }))
-  next-fits (mutates pos f) (Next.first e) = absurd (no-scan-mark n q (rw e refl) (f .notes))
-  next-fits (mutates pos f) (Next.second e) = absurd (no-scan-mark n q (rw e refl) (f .notes))
-  next-fits (collects z f) (Next.write e y) = absurd (no-mutator-mark n m q (rw e refl) (f .notes))
-  next-fits (collects z f) (Next.new e y) = absurd (no-mutator-mark n m q (rw e refl) (f .notes))
-  next-fits (collects z f) (Next.marked e) = absurd (no-mutator-mark n m q (rw e refl) (f .notes))
-  next-fits (collects z f) (Next.roots e l) = absurd (no-mutator-mark n m q (rw e refl) (f .notes))
-  next-fits (collects z f) (Next.root e l) = absurd (no-mutator-mark n m q (rw e refl) (f .notes))
+      let u = ⊎-elim (λ k. k .notes) (λ k. k .notes) (roots-at e f) in
+      let l = ⊎-elim (λ k. k .left) (λ k. k .left) (roots-at e f) in
+      after-mutator pos f (roots-first refl (record { stage = refl; notes = u; left = l; mark = unmarked; sense = unsensed pos }))
+  next-fits (mutates pos f) (Next.first e) = absurd (omega (arith, mutator-within f))
+  next-fits (mutates pos f) (Next.second e) = absurd (omega (arith, mutator-within f))
+  next-fits (collects z f) (Next.write e y) = absurd (omega (arith, collector-within f .0))
+  next-fits (collects z f) (Next.new e y) = absurd (omega (arith, collector-within f .0))
+  next-fits (collects z f) (Next.marked e) = absurd (omega (arith, collector-within f .0))
+  next-fits (collects z f) (Next.roots e l) = absurd (omega (arith, collector-within f .0))
+  next-fits (collects z f) (Next.root e l) = absurd (omega (arith, collector-within f .0))
   next-fits (collects z f) (Next.first e) =
-      let k = at-scan-mark n m q (rw e refl) (f .notes) in
-      after-collector z f (scan refl (record { stage = refl; is-x = k .is-x; left = k .left; mark = record { no-cell = refl; no-look = refl; no-grey = refl } }))
+      let k = scan-mark-at row7Mark0 refl e f in
+      after-collector z f (scan refl (record { stage = refl; is-x = k .is-x; left = k .left; mark = unmarked }))
   next-fits (collects z f) (Next.second e) =
-      let k = at-scan-mark n m q (rw e refl) (f .notes) in
-      after-collector z f (scan refl (record { stage = refl; is-x = k .is-x; left = k .left; mark = record { no-cell = refl; no-look = refl; no-grey = refl } }))
+      let k = scan-mark-at row7Mark1 refl e f in
+      after-collector z f (scan refl (record { stage = refl; is-x = k .is-x; left = k .left; mark = unmarked }))
 
 -- ---- the steps
 module _ {n m p r : ℕ} {q : Process} (f : Fits n m p q) (k : Running n m p r q) where
   going : (j : ℕ) → lookStage < j → j ≤ unlockStage → q .stage < unlockStage → (0 < p → j < phaseStage → q .sense ≡ false) → Fits n m p (at (q .place) j q)
-  going j i l h s = k .goes j (q .look) (q .sense) (q .grey) (noted j (q .look) (k .notes .is-cell) (k .notes .no-grey h) i l) i s
+  going j i l h s = k .goes j (q .look) (q .sense) (q .grey) (mark-goes-on j (k .notes) h i l) i s
 
   greyed : q .grey ≤ n
   greyed = ⊎-elim (λ (e : q .grey ≡ 0). omega arith) (λ (e : q .grey ≡ r). omega (arith, k .notes .is-cell .1)) (k .notes .is-grey)
@@ -171,18 +164,18 @@ module _ {n m p r : ℕ} {q : Process} (f : Fits n m p q) (k : Running n m p r q
   pub mark-fits : {a b : Memory} {t : Process} → Mark a p r q b t → Fits n m p t
   unfolding unnoted
   mark-fits (Mark.looks e {b = x} g) =
-      k .goes senseStage x (q .sense) (q .grey) (noted senseStage x (k .notes .is-cell) (k .notes .no-grey (omega arith)) (omega arith) (omega arith)) (omega arith)
+      k .goes senseStage x (q .sense) (q .grey) (mark-looks (k .notes) e x) (omega arith)
       (λ pos h. k .sense pos (omega arith))
   mark-fits (Mark.equal e g h) = next-fits n m p q (q .look) (q .work) (k .work) f h
   mark-fits (Mark.unequal e g) =
-      k .goes phaseStage (q .look) (not (q .look)) (q .grey) (noted phaseStage (q .look) (k .notes .is-cell) (k .notes .no-grey (omega arith)) (omega arith) (omega arith)) (omega arith)
+      k .goes phaseStage (q .look) (not (q .look)) (q .grey) (mark-goes-on phaseStage (k .notes) (omega arith) (omega arith) (omega arith)) (omega arith)
       (λ pos h. absurd (omega arith))
   mark-fits (Mark.idle e g h) = next-fits n m p q (q .sense) (q .work) (k .work) f h
   mark-fits (Mark.busy e g h) = going lockStage (omega arith) (omega arith) (omega arith) (λ pos i. absurd (omega arith))
   mark-fits (Mark.locks e g) = going againStage (omega arith) (omega arith) (omega arith) (λ pos i. absurd (omega arith))
   mark-fits (Mark.agrees e g) = going writeStage (omega arith) (omega arith) (omega arith) (λ pos i. absurd (omega arith))
   mark-fits (Mark.differs e g) = going unlockStage (omega arith) (omega arith) (omega arith) (λ pos i. absurd (omega arith))
-  mark-fits (Mark.writes e g) = k .goes unlockStage (q .look) (q .sense) r (greying (q .look) (k .notes .is-cell)) (omega arith) (λ pos i. absurd (omega arith))
+  mark-fits (Mark.writes e g) = k .goes unlockStage (q .look) (q .sense) r (mark-greys (k .notes)) (omega arith) (λ pos i. absurd (omega arith))
   mark-fits (Mark.wins e g h i) = next-fits n m p q (q .sense) (addOf (q .work) (q .grey)) (below-add (q .work) (q .grey) n greyed (k .work)) f i
   mark-fits (Mark.loses e g h i) = next-fits n m p q (q .sense) (q .work) (k .work) f i
 

@@ -8,25 +8,17 @@ use native.Mathlib.Omega.{arith}
 use lib.Dec.{eqb, leb}
 use Rattle.base.specs.Pick.{pick}
 use Rattle.cells.specs.Sets.{addOf, removeOf}
-use Rattle.buffers.specs.declared.Store.{Store}
-use Rattle.buffers.specs.declared.Store.the-variants as store
 use Rattle.buffers.specs.declared.Entry.{Entry}
 use Rattle.buffers.specs.Stores.{spotOf}
 use Rattle.buffers.specs.Buffers.{pushOf, popOf}
 use Rattle.memory.specs.declared.Memory.{Memory}
 use Rattle.memory.specs.declared.Done.{Done}
-use Rattle.memory.specs.Memories.{maxProcesses, asTaken, byBlocked, byOccupied, taken, refused, withBuffer, usedOf, bufferOf, pendingLenOf, blockedOf, thereOf, appliedOf, allocatedOf, freedOf}
+use Rattle.memory.specs.Memories.{maxProcesses, asTaken, byBlocked, byOccupied, taken, refused, withBuffer, usedOf, bufferOf, pendingLenOf, blockedOf, thereOf, allocatedOf, freedOf}
 use Rattle.memory.specs.Steps.{writeOf, commitOf, lockOf, unlockOf, allocateOf, freeOf}
+use Rattle.memory.proofs.Spots.{applied-settled}
+use Rattle.memory.proofs.Effects.{lock-taken}
+use Rattle.rows.proofs.Picking.{picked}
 use Rattle.kept.specs.Kept.{Counted, Settled}
-use Rattle.kept.proofs.Values.{picked}
-
-applied-settled : (m : Memory) (s : Store) → Settled m (appliedOf m s)
-unfolding appliedOf
-applied-settled m (store.Mark c b) = record { counts = record { cells = refl; processes = refl }; used = refl }
-applied-settled m (store.Field c f v) = record { counts = record { cells = refl; processes = refl }; used = refl }
-applied-settled m (store.Sense b) = record { counts = record { cells = refl; processes = refl }; used = refl }
-applied-settled m (store.AllocSense b) = record { counts = record { cells = refl; processes = refl }; used = refl }
-applied-settled m (store.Phase b) = record { counts = record { cells = refl; processes = refl }; used = refl }
 
 -- ---- answers, and those that are taken
 module _ (m : Memory) where
@@ -63,12 +55,11 @@ module _ (m : Memory) (p : ℕ) {n : Memory} where
       after (Settled m) (commitOf m p)
       (picked (Stays m) (eqb (pendingLenOf m p) 0) (same m)
       (picked (Stays m) (blockedOf m p) (same m)
-      (picked (Stays m) (thereOf m (spotOf (b .entry .store))) (record { counts = record { cells = a .counts .cells; processes = a .counts .processes }; used = a .used }) (same m))))
+      (picked (Stays m) (thereOf m (spotOf (b .entry .store))) (record { counts = record { cells = a .cells; processes = a .processes }; used = a .used }) (same m))))
       h
 
   pub lock-settled : lockOf m p ≡ taken n → Settled m n
-  unfolding lockOf
-  lock-settled h = after (Settled m) (lockOf m p) (picked (Stays m) (eqb (m .lock) 0) (record { counts = record { cells = refl; processes = refl }; used = refl }) (same m)) h
+  lock-settled h = let a = lock-taken p h .after .settled in record { counts = record { cells = a .cells; processes = a .processes }; used = a .used }
 
   pub unlock-settled : unlockOf m p ≡ taken n → Settled m n
   unfolding unlockOf

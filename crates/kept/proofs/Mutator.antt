@@ -5,7 +5,7 @@ use mathlib.Core.Bool.{Bool, true, false}
 use mathlib.Core.Logic.{_⊎_, inl, inr}
 use Prim.Native.Nat.{ℕ, _≤_, _<_}
 use native.Mathlib.Omega.{arith}
-use Rattle.cells.specs.Sets.{noCells, belowOf, removeOf, unionOf, Member}
+use Rattle.cells.specs.Sets.{noCells, belowOf, unionOf, Member}
 use Rattle.cells.proofs.Belows.{below-range, below-empty, below-add, below-remove, below-union}
 use Rattle.buffers.specs.declared.Store.the-variants as store
 use Rattle.buffers.specs.declared.Entry.{Entry}
@@ -17,23 +17,20 @@ use Rattle.state.specs.declared.Kind.{Kind}
 use Rattle.state.specs.declared.Process.{Process}
 use Rattle.state.specs.declared.State.{State}
 use Rattle.state.specs.declared.Choice.{Choice}
-use Rattle.state.specs.Codes.{top, storeMarkOld, storeMarkY, storeWrite, noopFence, noopFinish, rootsFence, rootsMark, rootsFinish, workFence, workFinish, noStage, lookStage, senseStage}
-use Rattle.state.specs.States.{nextOf, at, noting, leaving, marking, listing, shaking, mutatorsOf, withProcess, withHands}
-use Rattle.fits.specs.Fits.{Among, idlePlaces, StoreNotes, MarkNotes, Idle, RootsFirst, RootsRest, idle, mark-old, mark-y, write, roots-first, roots-rest, MutatorFits, WellFormed}
-use Rattle.rows.specs.Rows.{At, seesValue, withList, Branch, Mutator}
+use Rattle.state.specs.Codes.{top, storeMarkOld, storeMarkY, storeWrite, noopFence, noopFinish, rootsFence, rootsFinish, workFence, workFinish, noStage, lookStage}
+use Rattle.state.specs.States.{nextOf, at, noting, listing, shaking, mutatorsOf, withProcess, withHands}
+use Rattle.fits.specs.Fits.{Among, idlePlaces, StoreNotes, MarkNotes, Idle, idle, mark-old, mark-y, write, roots-first, roots-rest, MutatorFits, WellFormed}
+use Rattle.fits.proofs.Gives.{idle-at, write-at, roots-first-at, mark-begins, mark-looks, lists}
+use Rattle.fits.proofs.Keeps.{keeps-mutator, keeps-hands}
+use Rattle.rows.specs.Rows.{seesValue, withList, Branch, Mutator}
 use Rattle.kept.specs.Kept.{Fits, mutates}
 use Rattle.kept.proofs.Values.{write-ranged, allocate-ranged, seen-value}
-use Rattle.kept.proofs.Frames.{ranged, hands-framed, mutator-framed, moved}
-use Rattle.kept.proofs.Places.{at-idle, at-write, at-roots}
-use Rattle.kept.proofs.Marking.{noted as noted-mark, running, mark-fits, mark-memory}
+use Rattle.kept.proofs.Frames.{ranged, moved}
+use Rattle.kept.proofs.Marking.{running, mark-fits, mark-memory}
 
 -- from a place with no notes to another, with other lists and another part in the handshakes
 idle-moved : {n k w l : ℕ} {r i : Bool} {h : Handshake} {q : Process} → Among k idlePlaces → belowOf w n ≡ true → belowOf l n ≡ true → Idle q → MutatorFits n (at k noStage (shaking r i h (listing w l q)))
 idle-moved a b c d = record { roots = c; work = b; notes = idle a (record { stage = refl; notes = d .notes; left = d .left; mark = d .mark; sense = d .sense }) }
-
--- in place, with other lists
-idle-listed : {n w l : ℕ} {q : Process} → Among (q .place) idlePlaces → belowOf w n ≡ true → belowOf l n ≡ true → Idle q → MutatorFits n (listing w l q)
-idle-listed a b c d = record { roots = c; work = b; notes = idle a (record { stage = d .stage; notes = d .notes; left = d .left; mark = d .mark; sense = d .sense }) }
 
 -- the branch of an answer starts at a place with no notes
 branch-idle : {k : ℕ} {t : Kind} → Branch t k → Among k idlePlaces
@@ -44,7 +41,7 @@ branch-idle Branch.work = refl
 -- a store begins
 module _ (n x f y v : ℕ) (q : Process) (b : MutatorFits n q) (d : Idle q) (is : StoreNotes n x f y v) where
   first-mark : (c : ℕ) → IsCell n c → MarkNotes n lookStage c (q .look) (q .grey)
-  first-mark c i = record { is-cell = i; begun = omega arith; running = omega arith; no-look = λ _. d .mark .no-look; no-grey = λ _. d .mark .no-grey; is-grey = inl (d .mark .no-grey) }
+  first-mark c i = mark-begins i (d .mark .no-look) (d .mark .no-grey)
 
   store-old : (v ≡ 0 → ⊥) → MutatorFits n (at storeMarkOld lookStage (noting x f y v q))
   store-old h =
@@ -68,14 +65,8 @@ module _ (s : State) (c : Choice) (p : ℕ) (q : Process) (w : WellFormed s) (po
   rooted : (x : ℕ) → Member (q .roots) x → IsCell (s .memory .cells) x
   rooted x m = below-range (q .roots) (s .memory .cells) x (f .roots) m
 
-  idled : (k : ℕ) → Among k idlePlaces → q .place ≡ k → Idle q
-  idled k a e = at-idle (s .memory .cells) q (rw e a) (f .notes)
-
   goes : (t : Process) → MutatorFits (s .memory .cells) t → WellFormed (withProcess s p t)
-  goes t k = mutator-framed s w p t pos mine k
-
-  listed : {l : ℕ} → At top noStage q → belowOf l (s .memory .cells) ≡ true → MutatorFits (s .memory .cells) (listing (q .work) l q)
-  listed a b = idle-listed (rw (a .place) refl) (f .work) b (idled top refl (a .place))
+  goes t k = keeps-mutator s w p t pos mine k
 
   noted : (x i y v : ℕ) → Member (q .roots) x → i ≤ 1 → y ≤ s .memory .cells → v ≤ s .memory .cells → StoreNotes (s .memory .cells) x i y v
   noted x i y v m h j k = record { is-x = rooted x m; is-f = omega arith; is-y = j; is-old = k }
@@ -89,50 +80,49 @@ module _ (s : State) (c : Choice) (p : ℕ) (q : Process) (w : WellFormed s) (po
   finished : (h : Handshake) (k : ℕ) → Among k idlePlaces → q .place ≡ k →
       WellFormed (withProcess (withHands s (withList (s .hands) (unionOf (s .hands .work) (q .work)))) p (at top noStage (shaking false true h (listing noCells (q .roots) q))))
   finished h k a e =
-      mutator-framed (withHands s (withList (s .hands) (unionOf (s .hands .work) (q .work))))
-      (hands-framed s w (withList (s .hands) (unionOf (s .hands .work) (q .work))) (below-union (s .hands .work) (q .work) (s .memory .cells) (w .hands) (f .work)))
-      p _ pos mine (idle-moved refl (below-empty (s .memory .cells)) (f .roots) (idled k a e))
+      keeps-mutator (withHands s (withList (s .hands) (unionOf (s .hands .work) (q .work))))
+      (keeps-hands s w (withList (s .hands) (unionOf (s .hands .work) (q .work))) (below-union (s .hands .work) (q .work) (s .memory .cells) (w .hands) (f .work)))
+      p _ pos mine (idle-moved refl (below-empty (s .memory .cells)) (f .roots) (idle-at k a e f))
 
   pub mutator-kept : {t : State} → Mutator s c p q t → WellFormed t
   mutator-kept (Mutator.allocates a o x l g y {m = m} e) =
       let is : IsCell (s .memory .cells) (c .x) = (x, l) in
       moved s w m (rw e at (allocate-kept (s .memory) p (w .memory) here (c .x) is)) (rw e at (allocate-ranged (s .memory) p (ranged s w) (c .x))) p _ mine
-      (mutates pos (listed a (below-add (q .roots) (c .x) (s .memory .cells) l (f .roots))))
-  mutator-kept (Mutator.drops a o m g y) = goes _ (listed a (below-remove (q .roots) (c .x) (s .memory .cells) (f .roots)))
-  mutator-kept (Mutator.reads a o m g y {v = v} e h) = goes _ (listed a (below-add (q .roots) v (s .memory .cells) (seen (c .x) (c .f) e) (f .roots)))
+      (mutates pos (lists (q .work) _ f (f .work) (below-add (q .roots) (c .x) (s .memory .cells) l (f .roots))))
+  mutator-kept (Mutator.drops a o m g y) = goes _ (lists (q .work) _ f (f .work) (below-remove (q .roots) (c .x) (s .memory .cells) (f .roots)))
+  mutator-kept (Mutator.reads a o m g y {v = v} e h) = goes _ (lists (q .work) _ f (f .work) (below-add (q .roots) v (s .memory .cells) (seen (c .x) (c .f) e) (f .roots)))
   mutator-kept (Mutator.reads-null a o m g y e) = goes q f
   mutator-kept (Mutator.stores a o m g y {v = v} e h) =
-      goes _ (store-old (s .memory .cells) (c .x) (c .f) (c .y) v q f (idled top refl (a .place)) (noted (c .x) (c .f) (c .y) v m g (null-or-root (c .y) y) (seen (c .x) (c .f) e)) h)
+      goes _ (store-old (s .memory .cells) (c .x) (c .f) (c .y) v q f (idle-at top refl (a .place) f) (noted (c .x) (c .f) (c .y) v m g (null-or-root (c .y) y) (seen (c .x) (c .f) e)) h)
   mutator-kept (Mutator.stores-new a o m g y e) =
-      goes _ (store-new (s .memory .cells) (c .x) (c .f) (c .y) 0 q f (idled top refl (a .place)) (noted (c .x) (c .f) (c .y) 0 m g (rooted (c .y) y .1) (omega arith)) (rooted (c .y) y))
+      goes _ (store-new (s .memory .cells) (c .x) (c .f) (c .y) 0 q f (idle-at top refl (a .place) f) (noted (c .x) (c .f) (c .y) 0 m g (rooted (c .y) y .1) (omega arith)) (rooted (c .y) y))
   mutator-kept (Mutator.stores-null a o m g y e) =
-      goes _ (store-write (s .memory .cells) (c .x) (c .f) 0 0 q f (idled top refl (a .place)) (noted (c .x) (c .f) 0 0 m g (omega arith) (omega arith)))
+      goes _ (store-write (s .memory .cells) (c .x) (c .f) 0 0 q f (idle-at top refl (a .place) f) (noted (c .x) (c .f) 0 0 m g (omega arith) (omega arith)))
   mutator-kept (Mutator.fences a o x g y e) = goes q f
-  mutator-kept (Mutator.answers a o x g y r b) = goes _ (idle-moved (branch-idle b) (f .work) (f .roots) (idled top refl (a .place)))
+  mutator-kept (Mutator.answers a o x g y r b) = goes _ (idle-moved (branch-idle b) (f .work) (f .roots) (idle-at top refl (a .place) f))
   mutator-kept (Mutator.marks b {r = r} k h {m = m} {t = t} e) =
       let z : Fits (s .memory .cells) (mutatorsOf s) p q = mutates pos f in
       let u = running (s .memory .cells) (mutatorsOf s) p q z k h in
       let v = mark-memory (s .memory) p r (w .memory) (ranged s w) here (u .notes .is-cell) e in
       moved s w m (v .0) (v .1) p t mine (mark-fits z u e)
-  mutator-kept (Mutator.looks-root a o m {b = b} e) = goes _ (looked b (at-roots (s .memory .cells) q (a .place) (f .notes)))
-    where
-      looked : (b : Bool) → (RootsFirst (s .memory .cells) q) ⊎ (RootsRest (s .memory .cells) q) → MutatorFits (s .memory .cells) (at rootsMark senseStage (leaving (removeOf (q .left) (c .x)) (marking (c .x) b (q .sense) (q .grey) q)))
-      looked b (inr k) = absurd (omega (arith, k .named, a .stage))
-      looked b (inl k) =
-          record {
-            roots = f .roots;
-            work = f .work;
-            notes = roots-rest refl
-                (record {
-                  named = omega arith;
-                  notes = k .notes;
-                  left = below-remove (q .left) (c .x) (s .memory .cells) (k .left);
-                  mark = noted-mark senseStage b (below-range (q .left) (s .memory .cells) (c .x) (k .left) m) (k .mark .no-grey) (omega arith) (omega arith);
-                  sense = λ _. k .sense;
-                });
-          }
+  mutator-kept (Mutator.looks-root a o m {b = b} e) =
+      let k = roots-first-at (a .place) (a .stage) f in
+      let is = below-range (q .left) (s .memory .cells) (c .x) (k .left) m in
+      goes _
+      (record {
+        roots = f .roots;
+        work = f .work;
+        notes = roots-rest refl
+            (record {
+              named = omega arith;
+              notes = k .notes;
+              left = below-remove (q .left) (c .x) (s .memory .cells) (k .left);
+              mark = mark-looks (mark-begins is (k .mark .no-look) (k .mark .no-grey)) refl b;
+              sense = λ _. k .sense;
+            });
+      })
   mutator-kept (Mutator.writes a b {m = m} e) =
-      let k = at-write (s .memory .cells) q (a .place) (f .notes) in
+      let k = write-at (a .place) f in
       let v : Entry = record { store = store.Field (q .x) (q .f) (q .y) } in
       moved s w m (rw e at (write-kept (s .memory) p (w .memory) here v (k .notes .is-x, k .notes .is-f))) (rw e at (write-ranged (s .memory) p (ranged s w) v (k .notes .is-y))) p _ mine
       (mutates pos
@@ -141,12 +131,12 @@ module _ (s : State) (c : Choice) (p : ℕ) (q : Process) (w : WellFormed s) (po
         work = f .work;
         notes = idle refl (record { stage = refl; notes = record { no-x = refl; no-f = refl; no-y = refl; no-old = refl }; left = k .left; mark = k .mark; sense = k .sense });
       }))
-  mutator-kept (Mutator.fences-noop a b e) = goes _ (idle-moved refl (f .work) (f .roots) (idled noopFence refl (a .place)))
-  mutator-kept (Mutator.fences-work a b e) = goes _ (idle-moved refl (f .work) (f .roots) (idled workFence refl (a .place)))
+  mutator-kept (Mutator.fences-noop a b e) = goes _ (idle-moved refl (f .work) (f .roots) (idle-at noopFence refl (a .place) f))
+  mutator-kept (Mutator.fences-work a b e) = goes _ (idle-moved refl (f .work) (f .roots) (idle-at workFence refl (a .place) f))
   mutator-kept (Mutator.fences-roots a b e h) =
-      let d = idled rootsFence refl (a .place) in
+      let d = idle-at rootsFence refl (a .place) f in
       goes _ (record { roots = f .roots; work = f .work; notes = roots-first refl (record { stage = refl; notes = d .notes; left = f .roots; mark = d .mark; sense = d .sense }) })
-  mutator-kept (Mutator.fences-none a b e h) = goes _ (idle-moved refl (f .work) (f .roots) (idled rootsFence refl (a .place)))
-  mutator-kept (Mutator.finishes-noop a b) = goes _ (idle-moved refl (f .work) (f .roots) (idled noopFinish refl (a .place)))
+  mutator-kept (Mutator.fences-none a b e h) = goes _ (idle-moved refl (f .work) (f .roots) (idle-at rootsFence refl (a .place) f))
+  mutator-kept (Mutator.finishes-noop a b) = goes _ (idle-moved refl (f .work) (f .roots) (idle-at noopFinish refl (a .place) f))
   mutator-kept (Mutator.finishes-roots a b) = finished (nextOf (q .part .phase)) rootsFinish refl (a .place)
   mutator-kept (Mutator.finishes-work a b) = finished (q .part .phase) workFinish refl (a .place)

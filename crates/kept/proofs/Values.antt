@@ -1,17 +1,15 @@
 -- The counts of cells and processes stay, and the values of fields, in memory and pending, stay within 0 to N. Assumes nothing.
---     picked                 what holds of both holds of the one picked
 --     write-ranged           after a write of a store whose value is in range
 --     commit-ranged, fence-ranged, lock-ranged, unlock-ranged, allocate-ranged, free-ranged
 --     seen-value             the value that a look of a field sees is in range
 use mathlib.Core.Path.{_≡_, refl, ap, _∙_}
-use mathlib.Core.Bool.{Bool, true, false}
 use mathlib.Core.List.{List, [], _∷_, _++_}
 use Prim.Native.Nat.{ℕ, zero, suc, _+_, _-_, _≤_}
 use native.Mathlib.Omega.{arith}
 use lib.Dec.{eqb, leb}
 use lib.ListN.{getD, set, drop, take}
 use borrow.Author.Tests.{ne-eqb}
-use Rattle.base.specs.Pick.{pick, through}
+use Rattle.base.specs.Pick.{through}
 use Rattle.buffers.specs.declared.Store.{Store}
 use Rattle.buffers.specs.declared.Store.the-variants as store
 use Rattle.buffers.specs.declared.Spot.{Spot}
@@ -33,12 +31,8 @@ use Rattle.memory.specs.Memories.{maxProcesses, atCell, putCell, usedOf, noBuff
 use Rattle.memory.specs.Looks.{lookOf, lookFieldOf}
 use Rattle.memory.specs.Steps.{writeOf, commitOf, fenceOf, lockOf, unlockOf, allocateOf, freeOf}
 use Rattle.rows.specs.Rows.{seesValue}
+use Rattle.rows.proofs.Picking.{picked}
 use Rattle.kept.specs.Kept.{Ranged}
-
--- what holds of both holds of the one picked
-pub picked : {A : Type 0} (P : A → Type 0) (t : Bool) {x y : A} → P x → P y → P (pick t x y)
-picked P true a b = a
-picked P false a b = b
 
 -- ---- what holds at each place of a list
 module _ {A : Type 0} (P : A → Type 0) (d : A) where

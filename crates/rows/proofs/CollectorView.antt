@@ -13,6 +13,7 @@ use Rattle.memory.specs.declared.Memory.{Memory}
 use Rattle.memory.specs.Memories.{taken}
 use Rattle.memory.specs.Looks.{lookSenseOf, lookFieldOf, lookSweptOf}
 use Rattle.memory.specs.Steps.{writeOf, freeOf}
+use Rattle.memory.proofs.Effects.{is-taken}
 use Rattle.state.specs.declared.Kind.{Kind}
 use Rattle.state.specs.declared.Process.{Process}
 use Rattle.state.specs.declared.State.{State}
@@ -33,7 +34,7 @@ use Rattle.rows.proofs.Picking.{pick-ind, pick-no}
 use Rattle.rows.proofs.Numbers.{sense-looked, field-looked, swept, freed, written}
 use Rattle.rows.proofs.Deeds.{Offered, Ready, read-told, sweep-told, free-told, write-told, apart-clear, asks}
 use Rattle.rows.proofs.Offering.{offers-none, offers-one}
-use Rattle.rows.proofs.Seeing.{bit-seen, value-seen, step-taken, swept-free, swept-mark, same-bit, other-bit}
+use Rattle.rows.proofs.Seeing.{bit-seen, value-seen, swept-free, swept-mark, same-bit, other-bit}
 use Rattle.rows.proofs.Marking.{marked-cell, site, mark-view}
 use Rattle.rows.proofs.Standing.{placed}
 use Rattle.rows.proofs.RoundView.{round-view}
@@ -62,7 +63,7 @@ module _ (s : State) (c : Choice) (z : Collecting s c) where
   unfolding writeStep
   write-view v t o d f =
       let m = writeOf (s .memory) (c .process) (record { store = v }) in
-      offers-none Rows s c (z .kind) o (λ h b. asks s c Rows (write-told s c (ready h d) (written (s .memory) (c .process) (z .buffered) (record { store = v }))) (λ e x. goes x (f (m .memory) b (step-taken m e))))
+      offers-none Rows s c (z .kind) o (λ h b. asks s c Rows (write-told s c (ready h d) (written (s .memory) (c .process) (z .buffered) (record { store = v }))) (λ e x. goes x (f (m .memory) b (is-taken m e))))
 
   module _ (plain : q .stage ≡ noStage) where
     here : {i : ℕ} → q .place ≡ i → At i noStage q
@@ -182,8 +183,8 @@ module _ (s : State) (c : Choice) (z : Collecting s c) where
         offers-none Rows s c (z .kind) (placed offerOf q e)
         (λ o b. asks s c Rows (free-told s c (ready o (placed (deedOf c) q e)) (freed (s .memory) (c .process) (q .x)))
         (λ n h. by-cases (ℕ-discrete (q .left) noCells)
-        (λ v. become (withMemory s (m .memory)) (sweep-last q plain v) (goes h (row.frees-last (here e) b (step-taken m n) v)))
-        (λ v. become (withMemory s (m .memory)) (sweep-on q plain v) (goes h (row.frees (here e) b (step-taken m n) v)))))
+        (λ v. become (withMemory s (m .memory)) (sweep-last q plain v) (goes h (row.frees-last (here e) b (is-taken m n) v)))
+        (λ v. become (withMemory s (m .memory)) (sweep-on q plain v) (goes h (row.frees (here e) b (is-taken m n) v)))))
 
   -- ---- row 7's marks
   abbrev Scanning : Type 0

@@ -25,6 +25,7 @@ use Rattle.memory.specs.declared.Memory.{Memory}
 use Rattle.memory.specs.Memories.{taken}
 use Rattle.memory.specs.Looks.{lookMarkOf, lookSenseOf, lookPhaseOf}
 use Rattle.memory.specs.Steps.{lockOf, unlockOf, writeOf}
+use Rattle.memory.proofs.Effects.{is-taken}
 use Rattle.state.specs.declared.Process.{Process}
 use Rattle.state.specs.declared.State.{State}
 use Rattle.state.specs.declared.Choice.{Choice}
@@ -42,7 +43,7 @@ use Rattle.rows.specs.Views.{OwnFirst, OwnClear, View, stops, goes}
 use Rattle.rows.proofs.Picking.{pick-ind, pick-no, pick-from}
 use Rattle.rows.proofs.Numbers.{Buffered, mark-looked, sense-looked, phase-looked, locked, unlocked, written}
 use Rattle.rows.proofs.Deeds.{Offered, Ready, Told, told-ind, read-told, lock-told, unlock-told, write-told}
-use Rattle.rows.proofs.Seeing.{bit-seen, phase-seen, step-taken, same-bit, other-bit, bit-same, bit-other}
+use Rattle.rows.proofs.Seeing.{bit-seen, phase-seen, same-bit, other-bit, bit-same, bit-other}
 use Rattle.rows.proofs.Standing.{Standing, stage-same}
 
 -- ---- the cell being marked
@@ -200,7 +201,7 @@ module _ (s : State) (c : Choice) (z : Site s c) (R : State → Type 0) (after :
   unfolding lockStep markDeed
   lock-view g =
       let k = lockOf (s .memory) (c .process) in
-      told-ind s c Out (lock-told s c (ready (λ q. locks) g refl) (locked (s .memory) (c .process))) (λ e h. runs h (row.locks g (step-taken k e))) (stopped (k .no))
+      told-ind s c Out (lock-told s c (ready (λ q. locks) g refl) (locked (s .memory) (c .process))) (λ e h. runs h (row.locks g (is-taken k e))) (stopped (k .no))
 
   agreed : (b : Bool) → mover s c .stage ≡ againStage → OwnClear s c → lookMarkOf (s .memory) (c .process) (markedCell (mover s c)) ≡ seesBit b
       → Out (pick (sameBit (mover s c .look) b) (goesOn (s .memory) (at (mover s c .place) writeStage (mover s c))) (goesOn (s .memory) (at (mover s c .place) unlockStage (mover s c))))
@@ -221,7 +222,7 @@ module _ (s : State) (c : Choice) (z : Site s c) (R : State → Type 0) (after :
   unfolding writeStep markDeed
   write-view g =
       let k = writeOf (s .memory) (c .process) (record { store = store.Mark (markedCell (mover s c)) (mover s c .sense) }) in
-      told-ind s c Out (write-told s c (ready (λ q. writes (store.Mark (cellOf c q) (q .sense))) g refl) (written (s .memory) (c .process) (z .buffered) _)) (λ e h. runs h (row.writes g (step-taken k e))) (stopped (k .no))
+      told-ind s c Out (write-told s c (ready (λ q. writes (store.Mark (cellOf c q) (q .sense))) g refl) (written (s .memory) (c .process) (z .buffered) _)) (λ e h. runs h (row.writes g (is-taken k e))) (stopped (k .no))
 
   unlock-view : mover s c .stage ≡ unlockStage → Out (unlockStep (s .memory) (c .process) (mover s c))
   unfolding unlockStep markDeed
@@ -235,8 +236,8 @@ module _ (s : State) (c : Choice) (z : Site s c) (R : State → Type 0) (after :
           → OwnMark s c (unlockOf (s .memory) (c .process) .memory) t
       won e t n =
           by-cases (ℕ-discrete (mover s c .grey) 0)
-          (λ i. row.loses g (step-taken (unlockOf (s .memory) (c .process)) e) i (subst (λ (w : ℕ). Next (unnoted (c .process) (listing w (mover s c .roots) (mover s c))) t) (ap (addOf (mover s c .work)) i ∙ add-null (mover s c .work)) n))
-          (λ i. row.wins g (step-taken (unlockOf (s .memory) (c .process)) e) i n)
+          (λ i. row.loses g (is-taken (unlockOf (s .memory) (c .process)) e) i (subst (λ (w : ℕ). Next (unnoted (c .process) (listing w (mover s c .roots) (mover s c))) t) (ap (addOf (mover s c .work)) i ∙ add-null (mover s c .work)) n))
+          (λ i. row.wins g (is-taken (unlockOf (s .memory) (c .process)) e) i n)
 
   pub mark-view : View R s c (markOver s (c .process) after (markOf (s .memory) (c .process) (mover s c)))
   unfolding markOf

@@ -17,6 +17,7 @@ use Rattle.cells.proofs.Members.{add-null}
 use Rattle.buffers.specs.declared.Spot.the-variants as spot
 use Rattle.memory.specs.Looks.{lookFieldOf}
 use Rattle.memory.specs.Steps.{allocateOf}
+use Rattle.memory.proofs.Effects.{is-taken}
 use Rattle.state.specs.declared.Kind.{Kind}
 use Rattle.state.specs.declared.Kind.the-variants as kind
 use Rattle.state.specs.declared.Process.{Process}
@@ -38,7 +39,7 @@ use Rattle.rows.proofs.Picking.{pick-ind, pick-no}
 use Rattle.rows.proofs.Numbers.{Buffered, field-looked, fenced, allocated}
 use Rattle.rows.proofs.Deeds.{Offered, Ready, apart-clear, allocate-told, read-told, fence-told, flag-down, declines, asks}
 use Rattle.rows.proofs.Offering.{among, amid, and-true, of-x, is-of-x, of-nothing, is-of-nothing}
-use Rattle.rows.proofs.Seeing.{step-taken, value-seen, fence-taken}
+use Rattle.rows.proofs.Seeing.{value-seen, fence-taken}
 use Rattle.rows.proofs.Standing.{Standing, operating, operation-same}
 
 pub record Mutating (s : State) (c : Choice) : Type 0 where
@@ -145,7 +146,7 @@ module _ (s : State) (c : Choice) (z : Mutating s c) (h : mover s c .place ≡ t
       (λ t. pick-ind Out (isCell s (c .x))
       (λ u. let i = of-x c t in let j = cell-in s c u in
       asks s c (Own s c) (allocate-told s c (ready (offer.allocates e (j .0) (j .1) (i .0) (i .1)) (λ f. omega arith) (op-deed c (λ c. allocates (c .x)) e refl)) (allocated (s .memory) (c .process) (c .x)))
-      (λ n w. goes w (row.allocates here e (j .0) (j .1) (i .0) (i .1) (step-taken k n))))
+      (λ n w. goes w (row.allocates here e (j .0) (j .1) (i .0) (i .1) (is-taken k n))))
       (λ u. refuses (λ o. let i = takes 0 e o in false≢true (sym u ∙ in-cell s c (i .0) (i .1)))))
       (λ t. refuses (λ o. let i = takes 0 e o in false≢true (sym t ∙ is-of-x c (i .2) (i .3))))
 

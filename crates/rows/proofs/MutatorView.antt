@@ -15,6 +15,7 @@ use Rattle.memory.specs.declared.Memory.{Memory}
 use Rattle.memory.specs.Memories.{taken}
 use Rattle.memory.specs.Looks.{lookMarkOf}
 use Rattle.memory.specs.Steps.{fenceOf, writeOf}
+use Rattle.memory.proofs.Effects.{is-taken}
 use Rattle.state.specs.declared.Process.{Process}
 use Rattle.state.specs.declared.State.{State}
 use Rattle.state.specs.declared.Choice.{Choice}
@@ -36,7 +37,7 @@ use Rattle.rows.proofs.Picking.{pick-no, pick-from}
 use Rattle.rows.proofs.Numbers.{mark-looked, fenced, written}
 use Rattle.rows.proofs.Deeds.{Offered, Ready, told-ind, apart-clear, read-told, write-told, fence-told, asks}
 use Rattle.rows.proofs.Offering.{offers-none, offers-one, no-flag}
-use Rattle.rows.proofs.Seeing.{bit-seen, step-taken, fence-taken}
+use Rattle.rows.proofs.Seeing.{bit-seen, fence-taken}
 use Rattle.rows.proofs.Standing.{placed, staged}
 use Rattle.rows.proofs.Marking.{site, marked-old, marked-y, marked-cell, mark-view}
 use Rattle.rows.proofs.MutatorTop.{Mutating, Own, top-view}
@@ -157,7 +158,7 @@ module _ (s : State) (c : Choice) (z : Mutating s c) where
       let a : At storeWrite noStage (mover s c) = still e refl refl in
       offers-none (Own s c) s c (z .kind) (placed offerOf (mover s c) e)
       (λ o b. asks s c (Own s c) (write-told s c (ready e (omega arith) o (placed (deedOf c) (mover s c) e)) (written (s .memory) (c .process) (z .buffered) _))
-      (λ n w. rests (λ j. withProcess (withMemory s (k .memory)) (c .process) (at top j (noting 0 0 0 0 (mover s c)))) (a .stage) w (row.writes a b (step-taken k n))))
+      (λ n w. rests (λ j. withProcess (withMemory s (k .memory)) (c .process) (at top j (noting 0 0 0 0 (mover s c)))) (a .stage) w (row.writes a b (is-taken k n))))
 
   -- ---- "Answer: read the type; fence"
   fence-ready : {k : ℕ} → mover s c .place ≡ k → 0 < k → deedOf c (mover s c) ≡ fences → offerOf (mover s c) ≡ offer.nothing

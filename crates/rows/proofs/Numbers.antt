@@ -1,4 +1,5 @@
 -- Which number memory gives, and what for, in the words of the reasons of refusal: memory's laws (Refusals, Sights) said again. Assumes nothing.
+--     is-blocked, un-blocked           the code's test of a process that is blocked, or is not
 --     Looked, mark-looked, field-looked, sense-looked, phase-looked     a look: 7 while blocked, else 11 of a free cell, else 0
 --     Unblocked, swept, freed          the sweep's look and a free: 7 while blocked, else 0
 --     Granted, allocated               an allocation: 7 while blocked, else 10 of an occupied cell, else 0
@@ -6,7 +7,6 @@
 --     Buffered                         the process is one of those there can be, and memory has its shape
 --     Drained, fenced, unlocked        a fence and an unlock: 8 while a store is pending, else 0
 --     Roomed, written                  a write: 9 while no room is left, else 0
---     fence-memory                     a fence changes nothing
 use mathlib.Core.Path.{_≡_, sym, _∙_}
 use mathlib.Core.Bool.{true, false, false≢true}
 use mathlib.Core.Logic.{_⊎_, ⊎-elim}
@@ -25,7 +25,7 @@ use Rattle.memory.specs.Looks.{lookMarkOf, lookFieldOf, lookSenseOf, lookPhaseO
 use Rattle.memory.proofs.Shapes.{Shaped, pendingFor, pending-is}
 use Rattle.memory.proofs.Blocks.{blocked-is}
 use Rattle.memory.proofs.Chains.{One, Two}
-use Rattle.memory.proofs.Refusals.{write-no, fence-no, lock-no, unlock-no, allocate-no, free-no, fence-same}
+use Rattle.memory.proofs.Refusals.{write-no, fence-no, lock-no, unlock-no, allocate-no, free-no}
 use Rattle.memory.proofs.Sights.{look-mark-no, look-field-no, look-sense-no, look-phase-no, look-swept-no}
 use Rattle.rows.specs.Reasons.{Blocked, OnFree}
 
@@ -49,10 +49,10 @@ pub data Lent (m : Memory) (n : ℕ) : Type 0 where
   lent : n ≡ asTaken → m .lock ≡ 0 → Lent m n
 
 module _ (m : Memory) (p : ℕ) where
-  is-blocked : blockedOf m p ≡ true → Blocked m p
+  pub is-blocked : blockedOf m p ≡ true → Blocked m p
   is-blocked b = let k = blocked-is m p .0 b in record { held = k .0; other = k .1 }
 
-  un-blocked : blockedOf m p ≡ false → Blocked m p → ⊥
+  pub un-blocked : blockedOf m p ≡ false → Blocked m p → ⊥
   un-blocked b h = false≢true (sym b ∙ blocked-is m p .1 (h .held, h .other))
 
   -- a look at a spot of a cell, and at any other
@@ -126,6 +126,3 @@ module _ (m : Memory) (p : ℕ) (z : Buffered m p) where
       ⊎-elim (λ i. absurd (omega (arith, t .first .0 i, z .process)))
       (λ w. ⊎-elim (λ i. roomed i (rw pending-is at (t .second .0 i .1))) (λ i. full i (omega (arith, rw pending-is at (t .third .0 i .1)))) w)
       (t .only)
-
-pub fence-memory : (m : Memory) (p : ℕ) → fenceOf m p .memory ≡ m
-fence-memory m p = fence-same m p

@@ -1,7 +1,7 @@
 -- Memory's answer where it takes the step, as the rows write it. Assumes nothing.
 --     bit-seen, value-seen, phase-seen      a look that is taken sees its own value
 --     swept-free, swept-mark                the sweep's look that is taken finds a free cell, or a mark
---     step-taken, fence-taken               a step that is taken; a fence changes nothing
+--     fence-taken                           a fence that is taken changes nothing
 --     same-bit, other-bit                   two bits that are the same, and that are not
 --     bit-same, bit-other                   and the test of them
 use mathlib.Core.Path.{_≡_, refl, sym, ap, _∙_, subst}
@@ -10,7 +10,6 @@ use Prim.Native.Nat.{ℕ}
 use lib.Dec.{eqb}
 use Rattle.base.specs.Pick.{sameBit}
 use Rattle.memory.specs.declared.Memory.{Memory}
-use Rattle.memory.specs.declared.Done.{Done}
 use Rattle.memory.specs.declared.SeenBit.{SeenBit}
 use Rattle.memory.specs.declared.SeenValue.{SeenValue}
 use Rattle.memory.specs.declared.SeenPhase.{SeenPhase}
@@ -18,9 +17,10 @@ use Rattle.memory.specs.declared.Swept.{Swept}
 use Rattle.memory.specs.Memories.{asTaken, byFree, taken}
 use Rattle.memory.specs.Looks.{sweptOf, lookMarkOf, lookSweptOf}
 use Rattle.memory.specs.Steps.{fenceOf}
+use Rattle.memory.proofs.Effects.{is-taken}
+use Rattle.memory.proofs.Refusals.{fence-same}
 use Rattle.memory.proofs.Sights.{look-swept-is}
 use Rattle.rows.specs.Rows.{seesBit, seesValue, seesPhase, findsFree, findsMark}
-use Rattle.rows.proofs.Numbers.{fence-memory}
 use Rattle.rows.proofs.Picking.{pick-ind}
 
 pub bit-seen : (l : SeenBit) → l .no ≡ asTaken → l ≡ seesBit (l .bit)
@@ -32,11 +32,8 @@ value-seen l e = ap (λ (n : ℕ). record { no = n; value = l .value }) e
 pub phase-seen : (l : SeenPhase) → l .no ≡ asTaken → l ≡ seesPhase (l .phase)
 phase-seen l e = ap (λ (n : ℕ). record { no = n; phase = l .phase }) e
 
-pub step-taken : (k : Done) → k .no ≡ asTaken → k ≡ taken (k .memory)
-step-taken k e = ap (λ (n : ℕ). record { no = n; memory = k .memory }) e
-
 pub fence-taken : (m : Memory) (p : ℕ) → fenceOf m p .no ≡ asTaken → fenceOf m p ≡ taken m
-fence-taken m p e = step-taken (fenceOf m p) e ∙ ap taken (fence-memory m p)
+fence-taken m p e = is-taken (fenceOf m p) e ∙ ap taken (fence-same m p)
 
 -- ---- the sweep's look
 swept-is : (l : SeenBit) → sweptOf l .no ≡ asTaken → (sweptOf l .used ≡ false → sweptOf l ≡ findsFree) × (sweptOf l .used ≡ true → sweptOf l ≡ findsMark (sweptOf l .bit))

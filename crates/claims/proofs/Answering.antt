@@ -1,0 +1,59 @@
+-- Where a mutator's steps lead among the places of its answers. Assumes nothing.
+--     Passes, passes      from place a to place b: b is a place of an answer only if a was one of the same answer
+--     seat-passes         a step of a mark
+--     branch-answers      the branch of an answer is the one of the type
+--     top-answers         at top there is no answer
+use mathlib.Core.Path.{_≡_, refl}
+use mathlib.Core.Bool.{Bool, true, false, false≢true}
+use Prim.Native.Nat.{ℕ}
+use Rattle.base.specs.Pick.{pick}
+use Rattle.state.specs.declared.Kind.{Kind}
+use Rattle.state.specs.declared.Kind.the-variants as kind
+use Rattle.state.specs.Codes.{top, storeMarkOld, storeMarkY, storeWrite, rootsMark, rootsFinish, row7Mark0, row7Read1, row7Mark1, row7Drop}
+use Rattle.fits.specs.Fits.{amongOf, Among}
+use Rattle.rows.specs.Rows.{Branch}
+use Rattle.claims.specs.Answering.{answerPlaces}
+use Rattle.claims.proofs.Posted.{Leads, Seat}
+
+abbrev pub Passes : ℕ → ℕ → Type 0
+Passes a b = (t : Kind) → Among b (answerPlaces t) → Among a (answerPlaces t)
+
+-- the rule, computed: for each type a test
+abbrev pub passesOf : ℕ → ℕ → Kind → Bool
+passesOf a b t = pick (amongOf b (answerPlaces t)) (amongOf a (answerPlaces t)) true
+
+implied : {a b : Bool} → pick b a true ≡ true → b ≡ true → a ≡ true
+implied e f = rw f at e
+
+pub passes : (a b : ℕ) → passesOf a b kind.Noop ≡ true → passesOf a b kind.Roots ≡ true → passesOf a b kind.Work ≡ true → Passes a b
+passes a b n r w kind.Noop = implied n
+passes a b n r w kind.Roots = implied r
+passes a b n r w kind.Work = implied w
+
+leads-passes : {a b : ℕ} → Leads a b → Passes a b
+leads-passes Leads.write = passes storeMarkOld storeWrite refl refl refl
+leads-passes Leads.new = passes storeMarkOld storeMarkY refl refl refl
+leads-passes Leads.marked = passes storeMarkY storeWrite refl refl refl
+leads-passes Leads.roots = passes rootsMark rootsFinish refl refl refl
+leads-passes Leads.first = passes row7Mark0 row7Read1 refl refl refl
+leads-passes Leads.second = passes row7Mark1 row7Drop refl refl refl
+
+pub seat-passes : {a b : ℕ} → Seat a b → Passes a b
+seat-passes (Seat.stays e) = rw e (λ t h. h)
+seat-passes (Seat.leads l e f) = rw (e, f) (leads-passes l)
+
+pub branch-answers : {i : Kind} {k : ℕ} → Branch i k → (t : Kind) → Among k (answerPlaces t) → i ≡ t
+branch-answers Branch.noop kind.Noop h = refl
+branch-answers Branch.noop kind.Roots h = absurd (false≢true h)
+branch-answers Branch.noop kind.Work h = absurd (false≢true h)
+branch-answers Branch.roots kind.Noop h = absurd (false≢true h)
+branch-answers Branch.roots kind.Roots h = refl
+branch-answers Branch.roots kind.Work h = absurd (false≢true h)
+branch-answers Branch.work kind.Noop h = absurd (false≢true h)
+branch-answers Branch.work kind.Roots h = absurd (false≢true h)
+branch-answers Branch.work kind.Work h = refl
+
+pub top-answers : (t : Kind) → Among top (answerPlaces t) → ⊥
+top-answers kind.Noop h = false≢true h
+top-answers kind.Roots h = false≢true h
+top-answers kind.Work h = false≢true h

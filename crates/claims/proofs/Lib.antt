@@ -1,0 +1,13 @@
+pub mod Processes
+pub mod Runs
+pub mod Moves
+pub mod Lock
+pub mod Pending
+pub mod Occupied
+pub mod Posted
+pub mod Table
+pub mod Flags
+pub mod Answering
+pub mod Handshakes
+pub mod Unbroken
+pub mod Counts

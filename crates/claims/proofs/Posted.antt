@@ -1,0 +1,136 @@
+-- Where the collector's steps lead, and the system's handshake phase there. Assumes nothing.
+--     busyOf                 a round raises or polls
+--     at-posted              the phase at a place and stage that are known
+--     Rests, rest            a step between two places where none does, with the same handshake phase
+--     round-posts            setting the type posts the next phase
+--     round-ends             the round over, the phase is the one that the next place tells, and no round raises or polls
+--     Seat, mark-seat, mark-part      a step of a mark: it stays or leads to the place after the mark, and the part in the handshakes is left alone
+--     scan-rests             the collector's marks rest
+use mathlib.Core.Path.{_≡_, refl, sym, _∙_}
+use mathlib.Core.Bool.{Bool, true, false, false≢true}
+use Prim.Native.Nat.{ℕ}
+use lib.Dec.{leb}
+use Rattle.base.specs.Pick.{pick}
+use Rattle.memory.specs.declared.Memory.{Memory}
+use Rattle.state.specs.declared.Handshake.{Handshake}
+use Rattle.state.specs.declared.Handshake.the-variants as hand
+use Rattle.state.specs.declared.Kind.{Kind}
+use Rattle.state.specs.declared.Process.{Process}
+use Rattle.state.specs.Codes.{storeMarkOld, storeMarkY, storeWrite, rootsMark, rootsFinish, row7Mark0, row7Read1, row7Mark1, row7Drop, typeStage, raiseStage, pollStage}
+use Rattle.fits.specs.Fits.{amongOf, Among, roundPlaces, scanMarkPlaces}
+use Rattle.rows.specs.Rows.{At, unnoted, Next, Mark, Round, Advance}
+use Rattle.claims.specs.Posted.{postedOf}
+
+-- ---- places
+abbrev pub busyOf : ℕ → ℕ → Bool
+busyOf place stage = pick (amongOf place roundPlaces) (leb raiseStage stage) false
+
+pub record Rests (o t : Process) : Type 0 where
+  pub posted : postedOf (t .place) (t .stage) ≡ postedOf (o .place) (o .stage)
+  pub before : busyOf (o .place) (o .stage) ≡ false
+  pub after : busyOf (t .place) (t .stage) ≡ false
+
+pub at-posted : {k j : ℕ} {o : Process} → At k j o → postedOf (o .place) (o .stage) ≡ postedOf k j
+at-posted a = rw (a .place, a .stage) refl
+
+pub rest : {k j : ℕ} {o : Process} (t : Process) → At k j o → postedOf (t .place) (t .stage) ≡ postedOf k j → busyOf k j ≡ false → busyOf (t .place) (t .stage) ≡ false → Rests o t
+rest t a e f g = record { posted = e ∙ sym (at-posted a); before = rw (a .place, a .stage) f; after = g }
+
+-- ---- rounds
+pub round-posts : {k j l : ℕ} {t : Kind} {a : Handshake} → Round k t j l → Advance t (postedOf k typeStage) a → a ≡ postedOf k raiseStage
+round-posts Round.row1 Advance.noop = refl
+round-posts Round.row3 Advance.noop = refl
+round-posts Round.row4 Advance.noop = refl
+round-posts Round.row5 Advance.noop = refl
+round-posts Round.row6 Advance.roots = refl
+round-posts Round.row8 Advance.work = refl
+
+pub round-ends : {k j l : ℕ} {t : Kind} → Round k t j l → (postedOf j l ≡ postedOf k pollStage) × (busyOf j l ≡ false)
+round-ends Round.row1 = (refl, refl)
+round-ends Round.row3 = (refl, refl)
+round-ends Round.row4 = (refl, refl)
+round-ends Round.row5 = (refl, refl)
+round-ends Round.row6 = (refl, refl)
+round-ends Round.row8 = (refl, refl)
+
+-- ---- marks
+-- from the place of a mark to the place after it
+pub data Leads : ℕ → ℕ → Type 0 where
+  write : Leads storeMarkOld storeWrite
+  new : Leads storeMarkOld storeMarkY
+  marked : Leads storeMarkY storeWrite
+  roots : Leads rootsMark rootsFinish
+  first : Leads row7Mark0 row7Read1
+  second : Leads row7Mark1 row7Drop
+
+pub data Seat (a b : ℕ) : Type 0 where
+  stays : b ≡ a → Seat a b
+  leads : {x y : ℕ} → Leads x y → a ≡ x → b ≡ y → Seat a b
+
+next-seat : {q t : Process} → Next q t → Seat (q .place) (t .place)
+next-seat (Next.write e z) = Seat.leads Leads.write e refl
+next-seat (Next.new e z) = Seat.leads Leads.new e refl
+next-seat (Next.marked e) = Seat.leads Leads.marked e refl
+next-seat (Next.roots e z) = Seat.leads Leads.roots e refl
+next-seat (Next.root e z) = Seat.stays (rw e refl)
+next-seat (Next.first e) = Seat.leads Leads.first e refl
+next-seat (Next.second e) = Seat.leads Leads.second e refl
+
+next-part : {q t : Process} → Next q t → t .part ≡ q .part
+next-part (Next.write e z) = refl
+next-part (Next.new e z) = refl
+next-part (Next.marked e) = refl
+next-part (Next.roots e z) = refl
+next-part (Next.root e z) = refl
+next-part (Next.first e) = refl
+next-part (Next.second e) = refl
+
+pub mark-seat : {p r : ℕ} {q t : Process} {m n : Memory} → Mark m p r q n t → Seat (q .place) (t .place)
+unfolding unnoted
+mark-seat (Mark.looks e g) = Seat.stays refl
+mark-seat (Mark.equal e g h) = next-seat h
+mark-seat (Mark.unequal e g) = Seat.stays refl
+mark-seat (Mark.idle e g h) = next-seat h
+mark-seat (Mark.busy e g h) = Seat.stays refl
+mark-seat (Mark.locks e g) = Seat.stays refl
+mark-seat (Mark.agrees e g) = Seat.stays refl
+mark-seat (Mark.differs e g) = Seat.stays refl
+mark-seat (Mark.writes e g) = Seat.stays refl
+mark-seat (Mark.wins e g h i) = next-seat i
+mark-seat (Mark.loses e g h i) = next-seat i
+
+pub mark-part : {p r : ℕ} {q t : Process} {m n : Memory} → Mark m p r q n t → t .part ≡ q .part
+unfolding unnoted
+mark-part (Mark.looks e g) = refl
+mark-part (Mark.equal e g h) = next-part h
+mark-part (Mark.unequal e g) = refl
+mark-part (Mark.idle e g h) = next-part h
+mark-part (Mark.busy e g h) = refl
+mark-part (Mark.locks e g) = refl
+mark-part (Mark.agrees e g) = refl
+mark-part (Mark.differs e g) = refl
+mark-part (Mark.writes e g) = refl
+mark-part (Mark.wins e g h i) = next-part i
+mark-part (Mark.loses e g h i) = next-part i
+
+-- in row 7 the phase is IdleMarkSweep at every stage
+record Quiet (k : ℕ) : Type 0 where
+  pub posted : (j : ℕ) → postedOf k j ≡ hand.IdleMarkSweep
+  pub busy : (j : ℕ) → busyOf k j ≡ false
+
+quiet-seat : {a b k : ℕ} → Among k scanMarkPlaces → a ≡ k → Quiet k → Seat a b → Quiet b
+quiet-seat i e z (Seat.stays f) = rw (f, e) z
+quiet-seat i e z (Seat.leads Leads.write f g) = absurd (false≢true (rw (← e, f) at i))
+quiet-seat i e z (Seat.leads Leads.new f g) = absurd (false≢true (rw (← e, f) at i))
+quiet-seat i e z (Seat.leads Leads.marked f g) = absurd (false≢true (rw (← e, f) at i))
+quiet-seat i e z (Seat.leads Leads.roots f g) = absurd (false≢true (rw (← e, f) at i))
+quiet-seat i e z (Seat.leads Leads.first f g) = rw g (record { posted = λ j. refl; busy = λ j. refl })
+quiet-seat i e z (Seat.leads Leads.second f g) = rw g (record { posted = λ j. refl; busy = λ j. refl })
+
+quiet-rests : {o t : Process} → Quiet (o .place) → Quiet (t .place) → Rests o t
+quiet-rests {o} {t} a b = record { posted = rw (a .posted (o .stage), b .posted (t .stage)) refl; before = a .busy (o .stage); after = b .busy (t .stage) }
+
+pub scan-rests : {k : ℕ} {o t : Process} → o .place ≡ k → Among k scanMarkPlaces → ((j : ℕ) → postedOf k j ≡ hand.IdleMarkSweep) → ((j : ℕ) → busyOf k j ≡ false) → Seat (o .place) (t .place) → Rests o t
+scan-rests {k} e i f g s =
+    let z : Quiet k = record { posted = f; busy = g } in
+    quiet-rests (rw e z) (quiet-seat i e z s)

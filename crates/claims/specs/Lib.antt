@@ -1,0 +1,10 @@
+pub mod Runs
+pub mod Lock
+pub mod Pending
+pub mod Occupied
+pub mod Posted
+pub mod Table
+pub mod Flags
+pub mod Answering
+pub mod Handshakes
+pub mod Counts

@@ -1,0 +1,78 @@
+// A process that fits its place and stage: what the place uses has a value, and all else is zero.
+use state::Process;
+
+// A store of 2 in field 0 of cell 1, over the old value 2.
+fn storing(mut q: Process) -> Process {
+    q.x = 1;
+    q.y = 2;
+    q.old = 2;
+    q
+}
+
+// Row 7: cell 1 in hand, 1 and 2 on the list.
+fn scanning(mut q: Process) -> Process {
+    q.x = 1;
+    q.work = 3;
+    q
+}
+
+// The notes of the operation or the row, and what is left: roots 1 and 2, or cells 1 to 3.
+fn noted(mut q: Process, place: u8) -> Process {
+    match place {
+        1..=3 => return storing(q),
+        7 => q.left = 3,
+        22 => q.work = 3,
+        23..=26 => return scanning(q),
+        30 => q.left = 7,
+        31 => {
+            q.x = 1;
+            q.left = 6;
+        }
+        _ => {}
+    }
+    q
+}
+
+// A mark's notes: its cell is 2, the first look from the second stage, the noted fM from the third, the cell being greyed at the seventh.
+fn marked(mut q: Process, stage: u8, cell: u8) -> Process {
+    q.cell = cell;
+    q.look = 2 <= stage;
+    q.sense = 3 <= stage;
+    if stage == 7 {
+        q.grey = 2;
+    }
+    q
+}
+
+// A round awaits mutators 1 and 2 while it raises and polls.
+fn awaiting(mut q: Process, stage: u8) -> Process {
+    if 3 <= stage {
+        q.left = 3;
+    }
+    q
+}
+
+// At places 1 and 2 the cell being marked is the store's own note; at 7, stage 1, it is not yet named.
+fn staged(q: Process, place: u8, stage: u8) -> Process {
+    match place {
+        1 => marked(q, stage, 0),
+        2 => marked(q, stage, 0),
+        7 => {
+            if stage == 1 {
+                return q;
+            }
+            marked(q, stage, 2)
+        }
+        23 => marked(q, stage, 2),
+        25 => marked(q, stage, 2),
+        _ => awaiting(q, stage),
+    }
+}
+
+// The process at the place and the stage, with its roots and its part in the handshakes as they were.
+pub fn fitting(was: Process, place: u8, stage: u8) -> Process {
+    let mut q = was;
+    q.place = place;
+    q.stage = stage;
+    staged(noted(q, place), place, stage)
+}

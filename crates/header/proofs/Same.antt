@@ -1,0 +1,142 @@
+-- Only the header decides what a log opens to. Assumes nothing.
+--     header-decides     two logs with the same header open to the same heap
+--     cut-inside         a log cut inside its header is not admitted
+use mathlib.Core.Path.{_≡_, refl, ap, ap₂, _∙_}
+use mathlib.Core.Bool.{Bool}
+use mathlib.Core.List.{List, [], _∷_, _++_}
+use Prim.Native.Nat.{ℕ, zero, suc, _+_, _*_, _≤_, _<_}
+use native.Mathlib.Decide.{decLt}
+use native.Mathlib.Omega.{arith}
+use lib.Dec.{ltb}
+use lib.ListN.{length, take}
+use lib.Seq.{getD-take, length-take-le}
+use borrow.Author.Tests.{le-ltb, le-leb}
+use Rattle.base.specs.Pick.{pick, listed}
+use Rattle.base.specs.Every.{_and_, every}
+use Rattle.memory.specs.Memories.{maxCells, maxMutators}
+use Rattle.header.specs.Bytes.{perByte, byteAt, pairAt, wordAt}
+use Rattle.header.specs.Header.{maxLog, versionPlace, cellsPlace, mutatorsPlace, heapPlace, cellsSaid, mutatorsSaid, cellFields, cellPlace, rootsPlace, sizeOf, occupiedAt, fieldAt, rootsRead, gainedOf, usedAmong, lettersOf, cellAtOf, rootsFitOf, rootsAtOf, cellsFitOf, allRootsFitOf, heapFitsOf, fieldIn, fieldsOf, rootsIn, rootsOf, readHeap, heapOf}
+use Rattle.header.specs.Admitted.{Admitted}
+use Rattle.header.specs.Statements.{SameHeader, HeaderDecides, CutInside}
+use Rattle.header.proofs.Agrees.{tests, tested, admitted-clauses, clauses-admitted}
+
+-- ---- tests and lists made of the same
+every-same : (t u : ℕ → Bool) (n : ℕ) → ((i : ℕ) → i < n → t i ≡ u i) → every n t ≡ every n u
+every-same t u zero f = refl
+every-same t u (suc n) f = ap₂ _and_ (every-same t u n (λ i h. f i (omega arith))) (f n (omega arith))
+
+listed-same : (f g : ℕ → ℕ) (n : ℕ) → ((i : ℕ) → i < n → f i ≡ g i) → listed n f ≡ listed n g
+listed-same f g zero e = refl
+listed-same f g (suc n) e = ap₂ (λ (l : List ℕ) (x : ℕ). l ++ (x ∷ [])) (listed-same f g n (λ i h. e i (omega arith))) (e n (omega arith))
+
+below-same : (n i x y : ℕ) → (i < n → x ≡ y) → pick (ltb i n) x 0 ≡ pick (ltb i n) y 0
+below-same n i x y f = go (decLt i n)
+  where
+    go : Dec (i < n) → pick (ltb i n) x 0 ≡ pick (ltb i n) y 0
+    go (yes h) = ap (λ (z : ℕ). pick (ltb i n) z 0) (f h)
+    go (no h) = rw (le-ltb i n (omega arith)) refl
+
+-- ---- the places of a header
+size-least : (log : List ℕ) → heapPlace ≤ sizeOf log
+unfolding rootsPlace cellPlace
+size-least log = omega arith
+
+cell-within : (n m i f : ℕ) → i < n → f < cellFields → cellPlace i + 1 + f < rootsPlace n m
+unfolding rootsPlace cellPlace
+cell-within n m i f h b = omega arith
+
+occupied-within : (n m i : ℕ) → i < n → cellPlace i < rootsPlace n m
+unfolding rootsPlace cellPlace
+occupied-within n m i h = omega arith
+
+roots-within : (n m k : ℕ) → k < m → rootsPlace n k + 3 < rootsPlace n m
+unfolding rootsPlace cellPlace
+roots-within n m k h = omega arith
+
+module _ (log other : List ℕ) (s : SameHeader log other) where
+  abbrev N : ℕ
+  N = cellsSaid log
+
+  abbrev M : ℕ
+  M = mutatorsSaid log
+
+  at : (i : ℕ) → i < heapPlace → byteAt other i ≡ byteAt log i
+  at i h = s .bytes i (omega (arith, size-least log))
+
+  pair : (i : ℕ) → i + 1 < heapPlace → pairAt other i ≡ pairAt log i
+  unfolding pairAt
+  pair i h = ap₂ (λ (x y : ℕ). x + perByte * y) (at i (omega arith)) (at (i + 1) h)
+
+  word : (i : ℕ) → i + 3 < sizeOf log → wordAt other i ≡ wordAt log i
+  unfolding wordAt
+  word i h =
+      rw (s .bytes i (omega arith), s .bytes (i + 1) (omega arith), s .bytes (i + 2) (omega arith), s .bytes (i + 3) h) refl
+
+  same-size : sizeOf other ≡ sizeOf log
+  same-size = ap₂ rootsPlace (at cellsPlace (omega arith)) (at mutatorsPlace (omega arith))
+
+  occupied : (i : ℕ) → i < N → occupiedAt other i ≡ occupiedAt log i
+  occupied i h = s .bytes (cellPlace i) (occupied-within N M i h)
+
+  field : (i f : ℕ) → i < N → f < cellFields → fieldAt other i f ≡ fieldAt log i f
+  field i f h b = s .bytes (cellPlace i + 1 + f) (cell-within N M i f h b)
+
+  roots : (k : ℕ) → k < M → rootsRead other N k ≡ rootsRead log N k
+  roots k h = word (rootsPlace N k) (roots-within N M k h)
+
+  used : (n : ℕ) → n ≤ N → usedAmong other n ≡ usedAmong log n
+  used zero h = refl
+  used (suc i) h = ap₂ (λ (u o : ℕ). gainedOf u o (i + 1)) (used i (omega arith)) (occupied i (omega arith))
+
+  heap-fits : (u : ℕ) → heapFitsOf other N M u ≡ heapFitsOf log N M u
+  unfolding heapFitsOf cellsFitOf allRootsFitOf
+  heap-fits u =
+      ap₂ _and_
+      (every-same (cellAtOf other u) (cellAtOf log u) N (λ i h. rw (occupied i h, field i 0 h (omega arith), field i 1 h (omega arith)) refl))
+      (every-same (rootsAtOf other N u) (rootsAtOf log N u) M (λ k h. ap (rootsFitOf N u) (roots k h)))
+
+  letters : lettersOf other ≡ lettersOf log
+  unfolding lettersOf
+  letters = rw (at 0 (omega arith), at 1 (omega arith), at 2 (omega arith), pair versionPlace (omega arith)) refl
+
+  fields : (f : ℕ) → f < cellFields → fieldsOf other N f ≡ fieldsOf log N f
+  unfolding fieldsOf
+  fields f b = listed-same (fieldIn other N f) (fieldIn log N f) maxCells (λ i h. below-same N i (fieldAt other i f) (fieldAt log i f) (λ l. field i f l b))
+
+  all-roots : rootsOf other N M ≡ rootsOf log N M
+  unfolding rootsOf
+  all-roots = listed-same (rootsIn other N M) (rootsIn log N M) maxMutators (λ k h. below-same M k (rootsRead other N k) (rootsRead log N k) (roots k))
+
+  heap : heapOf other ≡ heapOf log
+  unfolding readHeap
+  heap =
+      rw (at cellsPlace (omega arith), at mutatorsPlace (omega arith), used N (omega arith), fields 0 (omega arith), fields 1 (omega arith), all-roots) refl
+
+  admitted : Admitted log → Admitted other
+  admitted a =
+      let t = tests log (clauses-admitted log a) in
+      admitted-clauses other
+      (tested other
+      (record {
+        long = le-leb (length other) maxLog (s .not-long);
+        letters = letters ∙ t .letters;
+        counts = rw (at cellsPlace (omega arith), at mutatorsPlace (omega arith)) (t .counts);
+        short = le-leb (sizeOf other) (length other) (rw same-size (s .not-short));
+        heap = rw (at cellsPlace (omega arith), at mutatorsPlace (omega arith), used N (omega arith)) (heap-fits (usedAmong log N) ∙ t .heap);
+      }))
+
+pub header-decides : HeaderDecides
+header-decides log other a s = record { size = same-size log other s; admitted = admitted log other s a; heap = heap log other s }
+
+-- a cut log has the bytes before its end, so where N and M are among them it has the same size
+pub cut-inside : CutInside
+cut-inside log j a h b = go (decLt j heapPlace)
+  where
+    cut : length (take j log) ≡ j
+    cut = length-take-le j log (omega (arith, a .not-short))
+
+    go : Dec (j < heapPlace) → ⊥
+    go (yes l) = omega (arith, b .not-short, size-least (take j log), cut)
+    go (no n) =
+        let e : sizeOf (take j log) ≡ sizeOf log = ap₂ rootsPlace (getD-take j log cellsPlace 0 (omega arith)) (getD-take j log mutatorsPlace 0 (omega arith)) in
+        omega (arith, b .not-short, cut, e)

@@ -1,0 +1,37 @@
+// The bytes of a log, and the numbers made of two and of four: "little-endian, as all here".
+ghost use mathlib.Core.Path.{_≡_};
+ghost use Rattle.header.specs.Bytes.{byteAt, pairAt, wordAt};
+
+// The byte at a place, and 0 past the end of the log.
+pub fn byte(log: &[u8], at: usize) -> u8
+    ensures { λ r. ⌜ r ≡ byteAt (now (log .entry)) at ⌝ }
+{
+    if at < log.len() {
+        return log[at];
+    }
+    0
+}
+
+// 16 bits. Past the end both bytes are 0, and at + 1 need not be asked.
+pub fn pair(log: &[u8], at: usize) -> u16
+    ensures { λ r. ⌜ r ≡ pairAt (now (log .entry)) at ⌝ }
+{
+    if log.len() <= at {
+        return 0;
+    }
+    let low = byte(log, at);
+    let high = byte(log, at + 1);
+    (low as u16) + 256 * (high as u16)
+}
+
+// 32 bits.
+pub fn word(log: &[u8], at: u32) -> u64
+    ensures { λ r. ⌜ r ≡ wordAt (now (log .entry)) at ⌝ }
+{
+    let i = at as usize;
+    let a = byte(log, i);
+    let b = byte(log, i + 1);
+    let c = byte(log, i + 2);
+    let d = byte(log, i + 3);
+    (a as u64) + 256 * ((b as u64) + 256 * ((c as u64) + 256 * (d as u64)))
+}

@@ -1,0 +1,5 @@
+pub mod Turns
+pub mod Judges
+pub mod Exacts
+pub mod Cuts
+pub mod Formed

@@ -1,0 +1,4 @@
+pub mod Records
+pub mod Runs
+pub mod Rule
+pub mod Statements

@@ -1,0 +1,85 @@
+-- The run of a log: its records taken one by one, each by the step of the state before it, and the three numbers. Assumes nothing.
+use mathlib.Core.Bool.{Bool, true, false}
+use mathlib.Core.List.{List}
+use Prim.Native.Nat.{ℕ, zero, suc, _+_, _-_, _*_, _/_, _%_}
+use lib.Dec.{eqb}
+use lib.ListN.{length}
+use Rattle.base.specs.Pick.{pick}
+use Rattle.state.specs.declared.State.{State}
+use Rattle.state.specs.declared.Answer.{Answer}
+use Rattle.state.specs.Openings.{openingOf}
+use Rattle.engine.specs.Steps.{innerOf}
+use Rattle.verdict.specs.Judged.{isMalformed, judgedOf}
+use Rattle.header.specs.Header.{sizeOf, admittedOf, heapOf, notAdmitted}
+use Rattle.runlog.specs.declared.Outcome.{Outcome}
+use Rattle.runlog.specs.declared.record.Record.{Record}
+use Rattle.runlog.specs.declared.run.Run.{Run}
+use Rattle.runlog.specs.Records.{recordSize, recordAt, rightCheckOf}
+
+-- "(else stop 13)"; "Fewer than 8 bytes left: stop 14."
+abbrev pub wrongCheck : ℕ
+wrongCheck = 13
+
+abbrev pub fewLeft : ℕ
+fewLeft = 14
+
+-- no record taken yet, and no stop
+abbrev pub startOf : State → Run
+startOf s = record { steps = 0; stop = 0; state = s }
+
+-- stopped: nothing else changes
+abbrev pub stoppedOf : ℕ → Run → Run
+stoppedOf n run = record { steps = run .steps; stop = n; state = run .state }
+
+-- one record more taken, to the state t
+abbrev pub tookOf : Run → State → Run
+tookOf run t = record { steps = run .steps + 1; stop = 0; state = t }
+
+-- "A refused record stops with its number."
+abbrev pub answeredOf : Run → Answer → Run
+answeredOf run a = pick (eqb (a .no) 0) (tookOf run (a .state)) (stoppedOf (a .no) run)
+
+-- a record's turn: a wrong check comes before any refusal of that record
+unfoldable pub turnOf : Run → Record → Run
+turnOf run r = pick (rightCheckOf r) (answeredOf run (innerOf (run .state) (r .choice))) (stoppedOf wrongCheck run)
+
+-- a run that has stopped takes no more records
+abbrev pub onwardIf : Bool → Run → Record → Run
+onwardIf true run r = turnOf run r
+onwardIf false run r = run
+
+unfoldable pub onwardOf : Run → Record → Run
+onwardOf run r = onwardIf (eqb (run .stop) 0) run r
+
+-- the run of the first k of the records that begin at a place
+abbrev pub runOf : List ℕ → ℕ → State → ℕ → Run
+runOf log at s zero = startOf s
+runOf log at s (suc k) = onwardOf (runOf log at s k) (recordAt log (at + recordSize * k))
+
+-- "Fewer than 8 bytes left: stop 14. None left: stop 0."
+unfoldable pub closedOf : Run → ℕ → Run
+closedOf run left = pick (eqb (run .stop) 0) (pick (eqb left 0) run (stoppedOf fewLeft run)) run
+
+-- how many whole records follow the header, and how many bytes are left after them
+abbrev pub wholeOf : List ℕ → ℕ
+wholeOf log = (length log - sizeOf log) / recordSize
+
+abbrev pub leftOf : List ℕ → ℕ
+leftOf log = (length log - sizeOf log) % recordSize
+
+unfoldable pub playedOf : List ℕ → State → Run
+playedOf log s = closedOf (runOf log (sizeOf log) s (wholeOf log)) (leftOf log)
+
+-- "the verdict is that of the state then, 4 on stop 12"
+unfoldable pub outcomeOf : Run → Outcome
+outcomeOf run = record { steps = run .steps; stop = run .stop; verdict = judgedOf (run .state) .verdict }
+
+abbrev pub notOpened : Outcome
+notOpened = record { steps = 0; stop = notAdmitted; verdict = isMalformed }
+
+abbrev pub judgeIf : Bool → List ℕ → Outcome
+judgeIf true log = outcomeOf (playedOf log (openingOf (heapOf log)))
+judgeIf false log = notOpened
+
+unfoldable pub judgeOf : List ℕ → Outcome
+judgeOf log = judgeIf (admittedOf log) log

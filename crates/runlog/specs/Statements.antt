@@ -1,0 +1,86 @@
+-- What is proved of the judge of a log, each statement by its name. Assumes nothing.
+use mathlib.Core.Path.{_≡_}
+use mathlib.Core.List.{List, _++_}
+use mathlib.Core.Logic.{_⊎_, _↔_}
+use Prim.Native.Nat.{ℕ, suc, _-_, _/_, _%_, _≤_, _<_}
+use lib.ListN.{length, take}
+use Rattle.state.specs.declared.State.{State}
+use Rattle.state.specs.declared.Choice.{Choice}
+use Rattle.state.specs.Openings.{openingOf}
+use Rattle.state.specs.States.{takenOf}
+use Rattle.fits.specs.Fits.{WellFormed}
+use Rattle.engine.specs.Steps.{innerOf}
+use Rattle.header.specs.Header.{maxLog, sizeOf, heapOf}
+use Rattle.header.specs.Admitted.{Admitted}
+use Rattle.runlog.specs.declared.Outcome.{Outcome}
+use Rattle.runlog.specs.declared.run.Run.{Run}
+use Rattle.runlog.specs.Records.{recordSize}
+use Rattle.runlog.specs.Runs.{fewLeft, onwardOf, runOf, closedOf, wholeOf, leftOf, playedOf, outcomeOf, notOpened, judgeOf}
+use Rattle.runlog.specs.Rule.{placeOf, recordOf, Taken, Judges}
+
+-- the outcome is the one of the log's rule, and there is no other
+abbrev pub OutcomeExactly : Type 0
+OutcomeExactly = (log : List ℕ) (o : Outcome) → (o ≡ judgeOf log) ↔ Judges log o
+
+-- a log that is not admitted has no run: "stop 12", with no step and verdict 4
+abbrev pub NotAdmitted : Type 0
+NotAdmitted = (log : List ℕ) → (Admitted log → ⊥) → judgeOf log ≡ notOpened
+
+-- the run of a log's first k records, and of the whole log
+abbrev pub afterOf : List ℕ → ℕ → Run
+afterOf log k = runOf log (sizeOf log) (openingOf (heapOf log)) k
+
+abbrev pub ranOf : List ℕ → Run
+ranOf log = playedOf log (openingOf (heapOf log))
+
+-- the three numbers of an admitted log are those of its run
+abbrev pub NumbersOfRun : Type 0
+NumbersOfRun = (log : List ℕ) → Admitted log → judgeOf log ≡ outcomeOf (ranOf log)
+
+-- the run is the fold of the step over the records, prefix by prefix: "each record's state is its own step's"
+abbrev pub EachItsOwn : Type 0
+EachItsOwn = (log : List ℕ) (k : ℕ) → afterOf log (suc k) ≡ onwardOf (afterOf log k) (recordOf log k)
+
+-- the opening of an admitted log is well formed
+abbrev pub OpeningFormed : Type 0
+OpeningFormed = (log : List ℕ) → Admitted log → WellFormed (openingOf (heapOf log))
+
+-- what the opening has and every step keeps, every state of a run has
+abbrev pub RunKeeps : Type 1
+RunKeeps =
+    (P : State → Type 0) → ((s t : State) (c : Choice) → P s → innerOf s c ≡ takenOf t → P t)
+    → (log : List ℕ) (k : ℕ) (s : State) → P (openingOf (heapOf log)) → Taken log k s → P s
+
+-- "A log that ends after any byte gives the run of its whole records."
+abbrev pub CutAnywhere : Type 0
+CutAnywhere =
+    (log : List ℕ) (j : ℕ) → Admitted log → sizeOf log ≤ j → j ≤ length log
+    → ranOf (take j log) ≡ closedOf (afterOf log ((j - sizeOf log) / recordSize)) ((j - sizeOf log) % recordSize)
+
+-- the same of the outcome; a log that ends inside its header is not opened
+abbrev pub CutJudged : Type 0
+CutJudged =
+    (log : List ℕ) (j : ℕ) → Admitted log → sizeOf log ≤ j → j ≤ length log
+    → judgeOf (take j log) ≡ outcomeOf (closedOf (afterOf log ((j - sizeOf log) / recordSize)) ((j - sizeOf log) % recordSize))
+
+abbrev pub CutInHeader : Type 0
+CutInHeader = (log : List ℕ) (j : ℕ) → Admitted log → j < sizeOf log → judgeOf (take j log) ≡ notOpened
+
+-- cut back to its whole records a log has the same run, but for a stop by the bytes left
+abbrev pub CutBack : Type 0
+CutBack = (log : List ℕ) → Admitted log → ranOf log ≡ closedOf (ranOf (take (placeOf log (wholeOf log)) log)) (leftOf log)
+
+-- that is, the same steps and the same state; and the same stop, or 14 where the whole records end with 0
+pub record SameButLeft (run whole : Run) : Type 0 where
+  pub steps : run .steps ≡ whole .steps
+  pub state : run .state ≡ whole .state
+  pub stop : (run .stop ≡ whole .stop) ⊎ ((run .stop ≡ fewLeft) × (whole .stop ≡ 0))
+
+abbrev pub CutSame : Type 0
+CutSame = (log : List ℕ) → Admitted log → SameButLeft (ranOf log) (ranOf (take (placeOf log (wholeOf log)) log))
+
+-- a log that a refusal or a wrong check stopped: more bytes change nothing
+abbrev pub MoreBytes : Type 0
+MoreBytes =
+    (log more : List ℕ) → Admitted log → length (log ++ more) ≤ maxLog → (judgeOf log .stop ≡ 0 → ⊥) → (judgeOf log .stop ≡ fewLeft → ⊥)
+    → judgeOf (log ++ more) ≡ judgeOf log
