@@ -17,17 +17,13 @@ use state::Process;
 use state::State;
 use state::opening::Heap;
 
-// One change of the ground: six bytes, a letter (see `acts`), four digits and a space.
+// One change of the ground: a letter (see `acts`) and four digits.
 struct Act {
     letter: u8,
     p: u8,
     c: u8,
     f: u8,
     v: u8,
-}
-
-impl Act {
-    const SIZE: usize = 6;
 }
 
 fn say(text: &[u8]) {
@@ -54,15 +50,26 @@ fn digit(s: &[u8], i: usize) -> u8 {
     if b < b'0' { 0 } else { b - b'0' }
 }
 
-// A choice is six digits, as a record has them: process, kind, operation, x, f, y.
+// A change, behind its sign: a letter and four digits.
+fn change(s: &[u8]) -> Act {
+    Act {
+        letter: byte(s, 1),
+        p: digit(s, 2),
+        c: digit(s, 3),
+        f: digit(s, 4),
+        v: digit(s, 5),
+    }
+}
+
+// A choice, behind its sign: six digits, as a record has them: process, kind, operation, x, f, y.
 fn choice(s: &[u8]) -> Choice {
     Choice {
-        process: digit(s, 0),
-        kind: digit(s, 1),
-        op: digit(s, 2),
-        x: digit(s, 3),
-        f: digit(s, 4),
-        y: digit(s, 5),
+        process: digit(s, 1),
+        kind: digit(s, 2),
+        op: digit(s, 3),
+        x: digit(s, 4),
+        f: digit(s, 5),
+        y: digit(s, 6),
     }
 }
 
@@ -79,26 +86,6 @@ fn ground() -> State {
         field1,
         roots,
     })
-}
-
-// The ground with the changes, one after the other.
-fn built(changes: &[u8]) -> State {
-    let mut s = ground();
-    let n = changes.len();
-    let mut left = n;
-    while Act::SIZE <= left {
-        let i = n - left;
-        let a = Act {
-            letter: byte(changes, i),
-            p: digit(changes, i + 1),
-            c: digit(changes, i + 2),
-            f: digit(changes, i + 3),
-            v: digit(changes, i + 4),
-        };
-        s = acts::act(s, a);
-        left -= Act::SIZE;
-    }
-    s
 }
 
 fn place(q: Process) {
@@ -123,25 +110,62 @@ fn told(s: State, c: Choice) {
     }
 }
 
-// A case: its name, the changes, the choice.
-fn case(name: &[u8], changes: &[u8], c: &[u8]) {
-    say(name);
-    say(b":");
-    told(built(changes), choice(c));
-    say(b"\n");
+// The same with the lock held by nobody, by the collector, by mutator 1, by mutator 2: four answers.
+fn locks(s: State, c: Choice) {
+    told(s, c);
+    told(acts::held(s, 0), c);
+    told(acts::held(s, 1), c);
+    told(acts::held(s, 2), c);
 }
 
-// The same with the lock held by nobody, by the collector, by mutator 1, by mutator 2: four answers.
-fn locks(name: &[u8], changes: &[u8], c: &[u8]) {
-    let s = built(changes);
-    let k = choice(c);
-    say(name);
-    say(b":");
-    told(s, k);
-    told(acts::held(s, 0), k);
-    told(acts::held(s, 1), k);
-    told(acts::held(s, 2), k);
-    say(b"\n");
+fn echo(s: &[u8]) {
+    if 0 < s.len() {
+        say(&s[0..1]);
+    }
+}
+
+// How many bytes belong to the first.
+fn more(b: u8) -> usize {
+    match b {
+        b'+' => 5,
+        b'=' => 6,
+        b'#' => 6,
+        _ => 0,
+    }
+}
+
+// What stands first in the text: + a change; = a choice, # a choice with each holder of the lock, after which the ground is as before; else a byte of a line.
+fn turn(s: State, text: &[u8]) -> State {
+    let b = byte(text, 0);
+    match b {
+        b'+' => acts::act(s, change(text)),
+        b'=' => {
+            told(s, choice(text));
+            ground()
+        }
+        b'#' => {
+            locks(s, choice(text));
+            ground()
+        }
+        _ => {
+            echo(text);
+            s
+        }
+    }
+}
+
+// A table of lines: a name, the changes of the ground, the choice.
+fn table(text: &[u8]) {
+    let mut s = ground();
+    let mut at = 0;
+    while at < text.len() {
+        s = turn(s, &text[at..]);
+        let k = more(text[at]);
+        if text.len() - at <= k {
+            return;
+        }
+        at += k + 1;
+    }
 }
 
 fn main() {
