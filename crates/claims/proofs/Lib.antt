@@ -11,3 +11,7 @@ pub mod Answering
 pub mod Handshakes
 pub mod Unbroken
 pub mod Counts
+pub mod Written
+pub mod Senses
+pub mod Noted
+pub mod Demand

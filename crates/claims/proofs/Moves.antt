@@ -1,6 +1,8 @@
 -- Each step seen from its compare and swap: what it does to the lock, to the pending stores and to the place of the process that steps. Assumes nothing.
 --     Goes           the six kinds of step
 --     row-goes       every row is of one of the kinds
+--     allocates-quiet, frees-quiet         allocating and freeing leave the lock, the pending stores, the senses and the phase
+--     site                                 the place of a mark
 --     others-inside, others-unlocking      another process stays inside its compare and swap, at its unlock, or outside
 --     outside-unlocking                    outside there is no unlock
 use mathlib.Core.Path.{_≡_, refl, sym, ap, _∙_}
@@ -44,10 +46,13 @@ insideOf q = insideAt (q .place) (q .stage)
 abbrev pub unlockOn : Process → Bool
 unlockOn q = unlockAt (q .place) (q .stage)
 
--- the lock and the pending stores stay
+-- the lock, the pending stores, the senses and the phase stay
 pub record Quiet (m n : Memory) : Type 0 where
   pub lock : n .lock ≡ m .lock
   pub pending : (p : ℕ) → pendingFor n p ≡ pendingFor m p
+  pub fm : n .fm ≡ m .fm
+  pub fa : n .fa ≡ m .fa
+  pub phase : n .phase ≡ m .phase
 
 -- what a step outside does to memory: no mark is written, and by a mutator only a field
 pub data Outer (p : ℕ) (m : Memory) : Memory → Type 0 where
@@ -65,29 +70,45 @@ pub data Goes (p : ℕ) (q : Process) (m : Memory) : Process → Memory → Type
 
 -- ---- memory
 still : (p : ℕ) (m : Memory) → Outer p m m
-still p m = Outer.quiet (record { lock = refl; pending = λ q. refl })
+still p m = Outer.quiet (record { lock = refl; pending = λ q. refl; fm = refl; fa = refl; phase = refl })
 
 -- the same, by the array of buffers
 record Unmoved (m n : Memory) : Type 0 where
   lock : n .lock ≡ m .lock
   buffers : n .buffers ≡ m .buffers
+  fm : n .fm ≡ m .fm
+  fa : n .fa ≡ m .fa
+  phase : n .phase ≡ m .phase
 
 keeps-quiet : {m : Memory} (d : Done) {n : Memory} → Unmoved m (d .memory) → d ≡ taken n → Quiet m n
 keeps-quiet {m} d {n} k e =
     let g = ap (λ (a : Done). a .memory) e in
-    record { lock = sym (ap (λ (a : Memory). a .lock) g) ∙ k .lock; pending = λ p. pending-same m n p (sym (ap (λ (a : Memory). a .buffers) g) ∙ k .buffers) }
+    record {
+      lock = sym (ap (λ (a : Memory). a .lock) g) ∙ k .lock;
+      pending = λ p. pending-same m n p (sym (ap (λ (a : Memory). a .buffers) g) ∙ k .buffers);
+      fm = sym (ap (λ (a : Memory). a .fm) g) ∙ k .fm;
+      fa = sym (ap (λ (a : Memory). a .fa) g) ∙ k .fa;
+      phase = sym (ap (λ (a : Memory). a .phase) g) ∙ k .phase;
+    }
 
 abbrev Stays : Memory → Done → Type 0
 Stays m d = Unmoved m (d .memory)
 
 module _ (m : Memory) (p x : ℕ) {n : Memory} where
-  allocates-quiet : allocateOf m p x ≡ taken n → Quiet m n
+  pub allocates-quiet : allocateOf m p x ≡ taken n → Quiet m n
   unfolding allocateOf
-  allocates-quiet e = keeps-quiet (allocateOf m p x) (pick-ind (Stays m) (blockedOf m p) (λ _. record { lock = refl; buffers = refl }) (λ _. pick-ind (Stays m) (usedOf m x) (λ _. record { lock = refl; buffers = refl }) (λ _. record { lock = refl; buffers = refl }))) e
+  allocates-quiet e =
+      keeps-quiet (allocateOf m p x)
+      (pick-ind (Stays m) (blockedOf m p) (λ _. record { lock = refl; buffers = refl; fm = refl; fa = refl; phase = refl })
+      (λ _. pick-ind (Stays m) (usedOf m x) (λ _. record { lock = refl; buffers = refl; fm = refl; fa = refl; phase = refl }) (λ _. record { lock = refl; buffers = refl; fm = refl; fa = refl; phase = refl })))
+      e
 
-  frees-quiet : freeOf m p x ≡ taken n → Quiet m n
+  pub frees-quiet : freeOf m p x ≡ taken n → Quiet m n
   unfolding freeOf
-  frees-quiet e = keeps-quiet (freeOf m p x) (pick-ind (Stays m) (blockedOf m p) (λ _. record { lock = refl; buffers = refl }) (λ _. record { lock = refl; buffers = refl })) e
+  frees-quiet e =
+      keeps-quiet (freeOf m p x)
+      (pick-ind (Stays m) (blockedOf m p) (λ _. record { lock = refl; buffers = refl; fm = refl; fa = refl; phase = refl }) (λ _. record { lock = refl; buffers = refl; fm = refl; fa = refl; phase = refl }))
+      e
 
 -- ---- places
 table : (f : ℕ → ℕ → Bool) (q : Process) {k j : ℕ} {b : Bool} → At k j q → f k j ≡ b → f (q .place) (q .stage) ≡ b
@@ -97,7 +118,7 @@ out : {q : Process} {k j : ℕ} → At k j q → insideAt k j ≡ false → insi
 out {q} a h = table insideAt q a h
 
 -- at a mark, by the stage
-site : {q : Process} {r : ℕ} → Marks q r → markPlace (q .place) ≡ true
+pub site : {q : Process} {r : ℕ} → Marks q r → markPlace (q .place) ≡ true
 site (Marks.old e) = rw e refl
 site (Marks.new e) = rw e refl
 site (Marks.root e) = rw e refl

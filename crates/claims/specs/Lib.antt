@@ -8,3 +8,6 @@ pub mod Flags
 pub mod Answering
 pub mod Handshakes
 pub mod Counts
+pub mod Written
+pub mod Noted
+pub mod Demand

@@ -1,0 +1,11 @@
+-- Demand 3 holds. Assumes nothing.
+use Rattle.claims.specs.Demand.{Demand3}
+use Rattle.claims.proofs.Unbroken.{run-table}
+use Rattle.claims.proofs.Counts.{run-behind}
+use Rattle.claims.proofs.Lock.{run-lock}
+use Rattle.claims.proofs.Pending.{run-marks}
+use Rattle.claims.proofs.Noted.{run-noted}
+use Rattle.claims.proofs.Occupied.{run-occupied}
+
+pub demand3 : Demand3
+demand3 = record { table = run-table; behind = run-behind; lock = run-lock; marks = run-marks; noted = run-noted; occupied = run-occupied }
