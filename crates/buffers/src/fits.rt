@@ -22,7 +22,7 @@ fn is_cell(n: u8, c: u8) -> bool
 }
 
 impl Store {
-    // The store names a cell of 1 to n, and a field that there is. The value is a plain byte here: what it may be, the collector above says.
+    // The store names a cell of 1 to n, and a field that there is. The value is a plain byte here: which values name a cell is tested above, in crate `fits`.
     pub fn fits(self, n: u8) -> bool
         ensures { λ r. ⌜ r ≡ storeFitsOf n self ⌝ }
     {

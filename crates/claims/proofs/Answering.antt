@@ -1,10 +1,11 @@
 -- Where a mutator's steps lead among the places of its answers. Assumes nothing.
+--     implied             a computed rule of the form "if b then a"
 --     Passes, passes      from place a to place b: b is a place of an answer only if a was one of the same answer
 --     seat-passes         a step of a mark
 --     branch-answers      the branch of an answer is the one of the type
 --     top-answers         at top there is no answer
 use mathlib.Core.Path.{_≡_, refl}
-use mathlib.Core.Bool.{Bool, true, false, false≢true}
+use mathlib.Core.Bool.{Bool, true, false≢true}
 use Prim.Native.Nat.{ℕ}
 use Rattle.base.specs.Pick.{pick}
 use Rattle.state.specs.declared.Kind.{Kind}
@@ -22,13 +23,13 @@ Passes a b = (t : Kind) → Among b (answerPlaces t) → Among a (answerPlaces t
 abbrev pub passesOf : ℕ → ℕ → Kind → Bool
 passesOf a b t = pick (amongOf b (answerPlaces t)) (amongOf a (answerPlaces t)) true
 
-implied : {a b : Bool} → pick b a true ≡ true → b ≡ true → a ≡ true
-implied e f = rw f at e
+pub implied : (b : Bool) {a : Bool} → pick b a true ≡ true → b ≡ true → a ≡ true
+implied b e f = rw f at e
 
 pub passes : (a b : ℕ) → passesOf a b kind.Noop ≡ true → passesOf a b kind.Roots ≡ true → passesOf a b kind.Work ≡ true → Passes a b
-passes a b n r w kind.Noop = implied n
-passes a b n r w kind.Roots = implied r
-passes a b n r w kind.Work = implied w
+passes a b n r w kind.Noop = implied (amongOf b (answerPlaces kind.Noop)) n
+passes a b n r w kind.Roots = implied (amongOf b (answerPlaces kind.Roots)) r
+passes a b n r w kind.Work = implied (amongOf b (answerPlaces kind.Work)) w
 
 leads-passes : {a b : ℕ} → Leads a b → Passes a b
 leads-passes Leads.write = passes storeMarkOld storeWrite refl refl refl

@@ -28,23 +28,23 @@ use Rattle.state.specs.Codes.{row6Take, row8Take, noStage, fenceStage, typeStag
 use Rattle.state.specs.States.{noProcess, mutatorsOf, processOf, takenOf, refusedOf}
 use Rattle.state.specs.Openings.{openCollector, openingOf}
 use Rattle.fits.specs.Fits.{amongOf, Among, WellFormed}
-use Rattle.fits.proofs.Opens.{opening-formed}
 use Rattle.rows.specs.Rows.{At, Marks, Mutator, Round, allOff, Collector, Row}
 use Rattle.kept.specs.Leaves.{Beside}
 use Rattle.kept.proofs.Frames.{off-process}
-use Rattle.claims.proofs.Processes.{same-process, within}
+use Rattle.claims.proofs.Processes.{replaced}
 use Rattle.fits.proofs.Keeps.{process-other}
 use Rattle.kept.proofs.Collector.{round-place}
 use Rattle.kept.proofs.Leaves.{row-counts, row-others}
 use Rattle.engine.specs.Steps.{stepOf}
-use Rattle.engine.proofs.Theorems.{answered, kept}
+use Rattle.engine.proofs.Theorems.{answered}
 use Rattle.claims.specs.Answering.{answerPlaces}
 use Rattle.claims.specs.Handshakes.{Handshakes}
+use Rattle.claims.specs.Inv.{Inv}
 use Rattle.claims.specs.Runs.{runOf}
-use Rattle.claims.specs.Counts.{typesAt, finishPlaces, setsType, finishesAnswer, onceOf, timesOf, roundsBehind, RunBehind}
+use Rattle.claims.specs.Counts.{typesAt, finishPlaces, setsType, finishesAnswer, onceOf, timesOf, behindBy, roundsBehind, RunBehind}
 use Rattle.claims.proofs.Posted.{busyOf, mark-part}
 use Rattle.claims.proofs.Flags.{settled}
-use Rattle.claims.proofs.Handshakes.{step-handshakes, opening-handshakes}
+use Rattle.claims.proofs.Inv.{opening-inv, step-inv}
 use Rattle.claims.proofs.Runs.{taken-row, step-keeps}
 
 -- ---- the collector
@@ -141,13 +141,13 @@ abbrev Balance : State → Choice → State → ℕ → Type 0
 Balance s c t m = pick (setsType s c) 1 0 + roundsBehind (processOf s m) ≡ pick (finishesAnswer m s c) 1 0 + roundsBehind (processOf t m)
 
 module _ (a b x y : Bool) where
-  level : a ≡ false → b ≡ false → y ≡ x → pick a 1 0 + pick x 0 1 ≡ pick b 1 0 + pick y 0 1
+  level : a ≡ false → b ≡ false → y ≡ x → pick a 1 0 + behindBy x ≡ pick b 1 0 + behindBy y
   level e f g = rw (e, f, g) refl
 
-  up-one : a ≡ true → b ≡ false → x ≡ true → y ≡ false → pick a 1 0 + pick x 0 1 ≡ pick b 1 0 + pick y 0 1
+  up-one : a ≡ true → b ≡ false → x ≡ true → y ≡ false → pick a 1 0 + behindBy x ≡ pick b 1 0 + behindBy y
   up-one e f g h = rw (e, f, g, h) refl
 
-  down-one : a ≡ false → b ≡ true → x ≡ false → y ≡ true → pick a 1 0 + pick x 0 1 ≡ pick b 1 0 + pick y 0 1
+  down-one : a ≡ false → b ≡ true → x ≡ false → y ≡ true → pick a 1 0 + behindBy x ≡ pick b 1 0 + behindBy y
   down-one e f g h = rw (e, f, g, h) refl
 
 module _ (s : State) (c : Choice) (t : State) (m : ℕ) where
@@ -182,7 +182,7 @@ module _ (s : State) (c : Choice) (t : State) (w : WellFormed s) (v : Handshakes
 
     -- the process that steps, and another
     becomes : (o : Process) → t .procs ≡ set (s .procs) p o → processOf t p ≡ o
-    becomes o e = rw e (same-process s p o (within s w p mine))
+    becomes o e = rw e (replaced s w p o mine)
 
     remains : (o : Process) (m : ℕ) → (m ≡ p → ⊥) → t .procs ≡ set (s .procs) p o → processOf t m ≡ processOf s m
     remains o m n e = rw e (process-other s p m o n)
@@ -209,30 +209,30 @@ row-behind s c {t} m w v pos mine (Row.commits k z a b h) = neither s c t m (rw 
 
 -- ---- one choice
 module _ (m : ℕ) (pos : 0 < m) where
-  step-behind : (s : State) (c : Choice) → WellFormed s → Handshakes s → m ≤ mutatorsOf s →
+  step-behind : (s : State) (c : Choice) → Inv s → m ≤ mutatorsOf s →
       onceOf setsType s c + roundsBehind (processOf s m) ≡ onceOf (finishesAnswer m) s c + roundsBehind (processOf (stepOf s c .state) m)
-  step-behind s c w v mine = go (answered s c)
+  step-behind s c v mine = go (answered s c)
     where
       go : (stepOf s c ≡ takenOf (stepOf s c .state)) ⊎ ((0 < stepOf s c .no) × (stepOf s c ≡ refusedOf (stepOf s c .no) s)) →
           onceOf setsType s c + roundsBehind (processOf s m) ≡ onceOf (finishesAnswer m) s c + roundsBehind (processOf (stepOf s c .state) m)
-      go (inl e) = rw (eq-eqb (stepOf s c .no) 0 (ap (λ (a : Answer). a .no) e)) (row-behind s c m w v pos mine (taken-row s c e))
+      go (inl e) = rw (eq-eqb (stepOf s c .no) 0 (ap (λ (a : Answer). a .no) e)) (row-behind s c m (v .formed) (v .hands) pos mine (taken-row s c e))
       go (inr e) = rw (ne-eqb (stepOf s c .no) 0 (λ i. omega (arith, e .0)), ap (λ (a : Answer). a .state) (e .1)) refl
 
   -- a step leaves the count of mutators
-  there : (s : State) (c : Choice) → WellFormed s → m ≤ mutatorsOf s → m ≤ mutatorsOf (stepOf s c .state)
-  there s c w = step-keeps (λ u. m ≤ mutatorsOf u) (λ u d x f a r. rw (row-counts r .processes) a) s c w
+  there : (s : State) (c : Choice) → m ≤ mutatorsOf s → m ≤ mutatorsOf (stepOf s c .state)
+  there = step-keeps (λ u. m ≤ mutatorsOf u) (λ u d x a r. rw (row-counts r .processes) a)
 
   joined : (a b d e x y z : ℕ) → a + x ≡ b + y → d + y ≡ e + z → a + d + x ≡ b + e + z
   joined a b d e x y z f g = omega arith
 
   -- ---- a run
-  run-balance : (s : State) → WellFormed s → Handshakes s → m ≤ mutatorsOf s → (cs : List Choice) →
+  run-balance : (s : State) → Inv s → m ≤ mutatorsOf s → (cs : List Choice) →
       timesOf setsType s cs + roundsBehind (processOf s m) ≡ timesOf (finishesAnswer m) s cs + roundsBehind (processOf (runOf s cs) m)
-  run-balance s w v mine [] = refl
-  run-balance s w v mine (c ∷ cs) =
+  run-balance s v mine [] = refl
+  run-balance s v mine (c ∷ cs) =
       joined (onceOf setsType s c) (onceOf (finishesAnswer m) s c) (timesOf setsType (stepOf s c .state) cs) (timesOf (finishesAnswer m) (stepOf s c .state) cs)
-      (roundsBehind (processOf s m)) (roundsBehind (processOf (stepOf s c .state) m)) (roundsBehind (processOf (runOf (stepOf s c .state) cs) m)) (step-behind s c w v mine)
-      (run-balance (stepOf s c .state) (kept s c w) (step-keeps Handshakes (λ u d x. step-handshakes u d) s c w v) (there s c w mine) cs)
+      (roundsBehind (processOf s m)) (roundsBehind (processOf (stepOf s c .state) m)) (roundsBehind (processOf (runOf (stepOf s c .state) cs) m)) (step-behind s c v mine)
+      (run-balance (stepOf s c .state) (step-inv s c v) (there s c mine) cs)
 
 -- at the opening no round raises or polls
 open-busy : (h : Heap) → busyOf (processOf (openingOf h) 0 .place) (processOf (openingOf h) 0 .stage) ≡ false
@@ -243,10 +243,10 @@ none : (a x : ℕ) {b : ℕ} → x ≡ 0 → a + x ≡ b → a ≡ b
 none a x e f = omega arith
 
 pub run-behind : RunBehind
-run-behind h w cs m pos mine = settle (run-balance m pos (openingOf h) (opening-formed h w) (opening-handshakes h w) mine cs)
+run-behind h w cs m pos mine = settle (run-balance m pos (openingOf h) (opening-inv h w) mine cs)
   where
     start : roundsBehind (processOf (openingOf h) m) ≡ 0
-    start = rw (settled (processOf (openingOf h) 0) m (open-busy h) (opening-handshakes h w .flags m pos mine) .1) refl
+    start = rw (settled (processOf (openingOf h) 0) m (open-busy h) (opening-inv h w .hands .flags m pos mine) .1) refl
 
     settle : timesOf setsType (openingOf h) cs + roundsBehind (processOf (openingOf h) m) ≡ timesOf (finishesAnswer m) (openingOf h) cs + roundsBehind (processOf (runOf (openingOf h) cs) m) →
         timesOf setsType (openingOf h) cs ≡ timesOf (finishesAnswer m) (openingOf h) cs + roundsBehind (processOf (runOf (openingOf h) cs) m)

@@ -1,10 +1,7 @@
 -- Demand 3 holds. Assumes nothing.
 use Rattle.claims.specs.Demand.{Demand3}
-use Rattle.claims.proofs.Unbroken.{run-table}
+use Rattle.claims.proofs.Theorems.{run-table, run-lock, run-marks, run-noted}
 use Rattle.claims.proofs.Counts.{run-behind}
-use Rattle.claims.proofs.Lock.{run-lock}
-use Rattle.claims.proofs.Pending.{run-marks}
-use Rattle.claims.proofs.Noted.{run-noted}
 use Rattle.claims.proofs.Occupied.{run-occupied}
 
 pub demand3 : Demand3

@@ -39,10 +39,9 @@ use Rattle.fits.specs.Fits.{Among, roundPlaces, WellFormed, HeapFits}
 use Rattle.fits.proofs.Places.{AllBelow, all-below}
 use Rattle.rows.specs.Rows.{At, Marks, Mark, Mutator, Round, Advance, allOff, withProcesses, flagged, Collector, Row}
 use Rattle.kept.proofs.Frames.{off-process, off-framed}
-use Rattle.claims.proofs.Processes.{same-process, within}
+use Rattle.claims.proofs.Processes.{replaced}
 use Rattle.fits.proofs.Keeps.{process-other, keeps-mutator}
-use Rattle.fits.proofs.Gives.{shakes}
-use Rattle.fits.proofs.Gives.{round-at, collector-within}
+use Rattle.fits.proofs.Gives.{shakes, round-at, collector-within}
 use Rattle.kept.proofs.Collector.{round-place}
 use Rattle.kept.proofs.Leaves.{row-counts}
 use Rattle.verdict.specs.Table.{InTable}
@@ -126,8 +125,8 @@ module _ (s : State) (w : WellFormed s) where
       Whole (mutatorsOf s) k h (s .procs) → Whole (mutatorsOf s) k h (set (s .procs) 0 t)
   collector-moved t e f v =
       record {
-        posted = rw (same-process s 0 t (within s w 0 (omega arith))) e;
-        each = λ m a b. rw (same-process s 0 t (within s w 0 (omega arith)), process-other s 0 m t (λ i. omega arith))
+        posted = rw (replaced s w 0 t (omega arith)) e;
+        each = λ m a b. rw (replaced s w 0 t (omega arith), process-other s 0 m t (λ i. omega arith))
             (record { line = v .each m a b .line; low = v .each m a b .low; flags = f m a b (v .each m a b .flags); answers = v .each m a b .answers });
       }
 
@@ -143,7 +142,7 @@ module _ (s : State) (w : WellFormed s) where
       }
     where
       go : (m : ℕ) → 0 < m → m ≤ mutatorsOf s → Dec (m ≡ p) → Stands k h (processOf s 0) m (processOf (withProcess s p t) m)
-      go m a b (yes e) = rw (e, same-process s p t (within s w p mine)) (f (v .each p pos mine))
+      go m a b (yes e) = rw (e, replaced s w p t mine) (f (v .each p pos mine))
       go m a b (no e) = rw (process-other s p m t e) (v .each m a b)
 
   -- ---- rounds
@@ -157,7 +156,7 @@ module _ (s : State) (w : WellFormed s) where
   set-moved {k} {t = t} {i = i} {h = h} {a = a} r p d v =
       let new : Process = at k raiseStage (leaving (fullOf (mutatorsOf s)) (processOf s 0)) in
       let off : State = withProcesses s (allOff (s .procs)) in
-      let here = same-process off 0 new (within off (off-framed s w) 0 (omega arith)) in
+      let here = replaced off (off-framed s w) 0 new (omega arith) in
       let e : h ≡ postedOf k typeStage = v .posted ∙ at-posted p in
       let g : Advance t (postedOf k typeStage) a = rw e at d in
       let b : busyOf (processOf s 0 .place) (processOf s 0 .stage) ≡ false = rw (p .place, p .stage) (early typeStage r refl) in
@@ -191,13 +190,13 @@ module _ (s : State) (w : WellFormed s) where
       up = withProcess s x (flagged q)
 
       here : processOf (withProcess up 0 t) 0 ≡ t
-      here = same-process up 0 t (within up (keeps-mutator s w x (flagged q) pos mine (shakes true (q .part .in_step) (q .part .phase) (w .mutators x pos mine))) 0 (omega arith))
+      here = replaced up (keeps-mutator s w x (flagged q) pos mine (shakes true (q .part .in_step) (q .part .phase) (w .mutators x pos mine))) 0 t (omega arith)
 
       raised : Stands k h t x (flagged q)
       raised = let z = v .each x pos mine in record { line = z .line; low = λ u. z .flags .down .1 d .1; flags = g; answers = λ i u. (refl, z .answers i u .1) }
 
       go : (m : ℕ) → 0 < m → m ≤ mutatorsOf s → Dec (m ≡ x) → Stands k h t m (processOf (withProcess s x (flagged q)) m)
-      go m a b (yes i) = rw (i, same-process s x (flagged q) (within s w x mine)) raised
+      go m a b (yes i) = rw (i, replaced s w x (flagged q) mine) raised
       go m a b (no i) =
           rw (process-other s x m (flagged q) i)
           (let z = v .each m a b in record { line = z .line; low = z .low; flags = f m a b i (z .flags); answers = z .answers })

@@ -1,6 +1,7 @@
 pub mod Processes
 pub mod Runs
 pub mod Moves
+pub mod Commits
 pub mod Lock
 pub mod Pending
 pub mod Occupied
@@ -9,9 +10,12 @@ pub mod Table
 pub mod Flags
 pub mod Answering
 pub mod Handshakes
-pub mod Unbroken
-pub mod Counts
 pub mod Written
 pub mod Senses
 pub mod Noted
+pub mod Inv
+pub mod Theorems
+pub mod Counts
 pub mod Demand
+pub mod Logs
+pub mod Marked

@@ -1,7 +1,6 @@
 -- The lock is held by a process exactly while it is inside its compare and swap. Assumes nothing.
 --     opening-lock, step-lock      at the opening, and after each step
---     run-lock                     after any choices
---     lock-free, run-lock-free     the lock is free exactly while nobody is inside
+--     lock-free                    the lock is free exactly while nobody is inside
 use mathlib.Core.Path.{_≡_, refl, sym, _∙_}
 use mathlib.Core.Bool.{false}
 use mathlib.Core.Logic.{_↔_}
@@ -23,8 +22,7 @@ use Rattle.state.specs.Openings.{openMemory, openCollector, openMutator, openPr
 use Rattle.fits.specs.Fits.{HeapFits, WellFormed}
 use Rattle.rows.specs.Rows.{Row}
 use Rattle.rows.proofs.Picking.{pick-ind}
-use Rattle.claims.specs.Lock.{insideAt, Inside, Lock, LockFree, RunLock, RunLockFree}
-use Rattle.claims.proofs.Runs.{always, run-formed}
+use Rattle.claims.specs.Lock.{insideAt, Inside, Lock, LockFree}
 use Rattle.claims.proofs.Moves.{insideOf, Outer, Goes, row-goes, others-inside}
 
 -- ---- the opening
@@ -89,16 +87,10 @@ step-lock s c {t} w l r p = go (ℕ-discrete p (c .process))
         let i = others-inside w r p e in
         (λ k. i ∙ h .0 k, λ k. h .1 (sym i ∙ k))
 
-pub run-lock : RunLock
-run-lock = always Lock (λ s c t. step-lock s c) opening-lock
-
 -- ---- free exactly while nobody is inside
-pub lock-free : (s : State) → WellFormed s → Lock s → LockFree s
-lock-free s w l = (λ e p i. let h = l p .1 i in omega arith, λ f. go f (ℕ-discrete (s .memory .lock) 0))
+pub lock-free : (s : State) → Lock s → LockFree s
+lock-free s l = (λ e p i. let h = l p .1 i in omega arith, λ f. go f (ℕ-discrete (s .memory .lock) 0))
   where
     go : ((p : ℕ) → Inside (processOf s p) → ⊥) → Dec (s .memory .lock ≡ 0) → s .memory .lock ≡ 0
     go f (yes e) = e
     go f (no e) = absurd (f (s .memory .lock - 1) (l (s .memory .lock - 1) .0 (omega arith)))
-
-pub run-lock-free : RunLockFree
-run-lock-free h f cs = lock-free _ (run-formed h f cs) (run-lock h f cs)

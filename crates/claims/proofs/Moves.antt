@@ -5,36 +5,38 @@
 --     site                                 the place of a mark
 --     others-inside, others-unlocking      another process stays inside its compare and swap, at its unlock, or outside
 --     outside-unlocking                    outside there is no unlock
-use mathlib.Core.Path.{_≡_, refl, sym, ap, _∙_}
+use mathlib.Core.Path.{_≡_, refl, sym}
 use mathlib.Core.Bool.{Bool, true, false, not, false≢true, _&&_, _||_}
 use mathlib.Core.Logic.{⊎-elim}
-use Prim.Native.Nat.{ℕ, _<_}
+use Prim.Native.Nat.{ℕ, _≤_, _<_}
 use native.Mathlib.Omega.{arith}
 use lib.Dec.{eqb}
-use lib.ListN.{length-set}
 use Rattle.cells.specs.Sets.{noCells}
 use Rattle.buffers.specs.declared.Phase.the-variants as phase
 use Rattle.buffers.specs.declared.Store.{Store}
 use Rattle.buffers.specs.declared.Store.the-variants as store
+use Rattle.buffers.specs.Fits.{IsCell}
 use Rattle.memory.specs.declared.Memory.{Memory}
-use Rattle.memory.specs.declared.Done.{Done}
-use Rattle.memory.specs.Memories.{maxProcesses, taken, usedOf, blockedOf}
+use Rattle.memory.specs.Memories.{maxCells, maxProcesses, taken}
 use Rattle.memory.specs.Steps.{writeOf, commitOf, lockOf, unlockOf, allocateOf, freeOf}
-use Rattle.memory.proofs.Shapes.{pendingFor, pending-same}
+use Rattle.memory.proofs.Shapes.{pendingFor}
+use Rattle.memory.proofs.Effects.{Reset, allocate-taken, free-taken}
+use Rattle.sound.specs.WellFormed as sound
+use Rattle.sound.proofs.Shapes.{shaped}
 use Rattle.state.specs.declared.Kind.{Kind}
 use Rattle.state.specs.declared.Process.{Process}
 use Rattle.state.specs.declared.State.{State}
 use Rattle.state.specs.declared.Choice.{Choice}
 use Rattle.state.specs.Codes.{storeMarkOld, noStage, senseStage, phaseStage, lockStage, againStage, writeStage, unlockStage, fenceStage, typeStage, raiseStage, pollStage}
-use Rattle.state.specs.States.{processOf, withProcess, withMemory, withHands}
-use Rattle.fits.specs.Fits.{WellFormed}
+use Rattle.state.specs.States.{mutatorsOf, processOf, withProcess, withMemory, withHands}
+use Rattle.fits.specs.Fits.{CollectorFits, WellFormed}
+use Rattle.fits.proofs.Gives.{sweep-free-at}
 use Rattle.rows.specs.Offers.{markPlace}
 use Rattle.rows.specs.Rows.{At, Marks, Next, Mark, Mutator, Branch, Round, withList, allOff, withProcesses, flagged, Collector, Row}
 use Rattle.rows.specs.Reasons.{mover}
-use Rattle.rows.proofs.Picking.{pick-ind}
 use Rattle.kept.specs.Leaves.{Beside}
 use Rattle.kept.proofs.Frames.{named}
-use Rattle.claims.proofs.Processes.{same-process}
+use Rattle.claims.proofs.Processes.{arrived}
 use Rattle.kept.proofs.Kept.{row-kept}
 use Rattle.kept.proofs.Leaves.{row-others}
 use Rattle.claims.specs.Lock.{insideAt, Inside}
@@ -72,43 +74,18 @@ pub data Goes (p : ℕ) (q : Process) (m : Memory) : Process → Memory → Type
 still : (p : ℕ) (m : Memory) → Outer p m m
 still p m = Outer.quiet (record { lock = refl; pending = λ q. refl; fm = refl; fa = refl; phase = refl })
 
--- the same, by the array of buffers
-record Unmoved (m n : Memory) : Type 0 where
-  lock : n .lock ≡ m .lock
-  buffers : n .buffers ≡ m .buffers
-  fm : n .fm ≡ m .fm
-  fa : n .fa ≡ m .fa
-  phase : n .phase ≡ m .phase
+reset-quiet : {m n : Memory} {x : ℕ} {u b : Bool} → Reset m x u b n → Quiet m n
+reset-quiet r = record { lock = r .lock; pending = r .pending; fm = r .fm; fa = r .fa; phase = r .phase }
 
-keeps-quiet : {m : Memory} (d : Done) {n : Memory} → Unmoved m (d .memory) → d ≡ taken n → Quiet m n
-keeps-quiet {m} d {n} k e =
-    let g = ap (λ (a : Done). a .memory) e in
-    record {
-      lock = sym (ap (λ (a : Memory). a .lock) g) ∙ k .lock;
-      pending = λ p. pending-same m n p (sym (ap (λ (a : Memory). a .buffers) g) ∙ k .buffers);
-      fm = sym (ap (λ (a : Memory). a .fm) g) ∙ k .fm;
-      fa = sym (ap (λ (a : Memory). a .fa) g) ∙ k .fa;
-      phase = sym (ap (λ (a : Memory). a .phase) g) ∙ k .phase;
-    }
+module _ (m : Memory) (w : sound.WellFormed m) (p x : ℕ) (i : IsCell (m .cells) x) where
+  most : x ≤ maxCells
+  most = omega (arith, i .1, w .few-cells)
 
-abbrev Stays : Memory → Done → Type 0
-Stays m d = Unmoved m (d .memory)
+  pub allocates-quiet : {n : Memory} → allocateOf m p x ≡ taken n → Quiet m n
+  allocates-quiet e = reset-quiet (allocate-taken p x (shaped m w) (i .0) most e .after)
 
-module _ (m : Memory) (p x : ℕ) {n : Memory} where
-  pub allocates-quiet : allocateOf m p x ≡ taken n → Quiet m n
-  unfolding allocateOf
-  allocates-quiet e =
-      keeps-quiet (allocateOf m p x)
-      (pick-ind (Stays m) (blockedOf m p) (λ _. record { lock = refl; buffers = refl; fm = refl; fa = refl; phase = refl })
-      (λ _. pick-ind (Stays m) (usedOf m x) (λ _. record { lock = refl; buffers = refl; fm = refl; fa = refl; phase = refl }) (λ _. record { lock = refl; buffers = refl; fm = refl; fa = refl; phase = refl })))
-      e
-
-  pub frees-quiet : freeOf m p x ≡ taken n → Quiet m n
-  unfolding freeOf
-  frees-quiet e =
-      keeps-quiet (freeOf m p x)
-      (pick-ind (Stays m) (blockedOf m p) (λ _. record { lock = refl; buffers = refl; fm = refl; fa = refl; phase = refl }) (λ _. record { lock = refl; buffers = refl; fm = refl; fa = refl; phase = refl }))
-      e
+  pub frees-quiet : {n : Memory} → freeOf m p x ≡ taken n → Quiet m n
+  frees-quiet e = reset-quiet (free-taken p x (shaped m w) (i .0) most e .after)
 
 -- ---- places
 table : (f : ℕ → ℕ → Bool) (q : Process) {k j : ℕ} {b : Bool} → At k j q → f k j ≡ b → f (q .place) (q .stage) ≡ b
@@ -202,14 +179,14 @@ mark-goes i (Mark.loses e g h k) = Goes.unlocks (on i e refl) (next-out k) g
 data Went (s : State) (p : ℕ) (q : Process) : State → Type 0 where
   went : (x : State) (o : Process) → Goes p q (s .memory) o (x .memory) → Went s p q (withProcess x p o)
 
-module _ (s : State) (c : Choice) (p : ℕ) (q : Process) where
+module _ (s : State) (w : WellFormed s) (c : Choice) (p : ℕ) (q : Process) where
   -- memory stays
   rest : (o : Process) → insideOf q ≡ false → insideOf o ≡ false → Goes p q (s .memory) o (s .memory)
   rest o a b = Goes.outside a b (still p (s .memory))
 
   mutator-goes : {t : State} → Mutator s c p q t → Went s p q t
   unfolding insideAt
-  mutator-goes (Mutator.allocates a o x l g y {m} e) = went (withMemory s m) _ (Goes.outside (out a refl) (out a refl) (Outer.quiet (allocates-quiet (s .memory) p (c .x) e)))
+  mutator-goes (Mutator.allocates a o x l g y {m} e) = went (withMemory s m) _ (Goes.outside (out a refl) (out a refl) (Outer.quiet (allocates-quiet (s .memory) (w .memory) p (c .x) (x, l) e)))
   mutator-goes (Mutator.drops a o m g y) = went s _ (rest _ (out a refl) (out a refl))
   mutator-goes (Mutator.reads a o m g y e h) = went s _ (rest _ (out a refl) (out a refl))
   mutator-goes (Mutator.reads-null a o m g y e) = went s _ (rest _ (out a refl) (out a refl))
@@ -230,55 +207,53 @@ module _ (s : State) (c : Choice) (p : ℕ) (q : Process) where
   mutator-goes (Mutator.finishes-work a b) = went (withHands s (withList (s .hands) _)) _ (rest _ (out a refl) refl)
 
 -- the collector is process 0: no word of a mutator's stores
-module _ (s : State) (c : Choice) (q : Process) where
+module _ (s : State) (w : WellFormed s) (c : Choice) (q : Process) (f : CollectorFits (s .memory .cells) (mutatorsOf s) q) where
   write-out : {k j : ℕ} → At k j q → insideAt k j ≡ false → (o : Process) → insideOf o ≡ false → (v : Store) → isMark v ≡ false → {m : Memory} → writeOf (s .memory) 0 (record { store = v }) ≡ taken m → Goes 0 q (s .memory) o m
   write-out a b o h v n e = Goes.outside (out a b) h (Outer.writes n (λ l. absurd (omega arith)) e)
 
   collector-goes : {t : State} → Collector s c 0 q t → Went s 0 q t
   unfolding insideAt
-  collector-goes (Collector.fences r a b e) = went s _ (rest s c 0 q _ (out a (round-out fenceStage r)) (round-out typeStage r))
-  collector-goes (Collector.types r a b v) = went (withProcesses (withHands s _) (allOff (s .procs))) _ (rest s c 0 q _ (out a (round-out typeStage r)) (round-out raiseStage r))
-  collector-goes (Collector.raises r a b m e) = went (withProcess s (c .x) (flagged (processOf s (c .x)))) _ (rest s c 0 q _ (out a (round-out raiseStage r)) (out a (round-out raiseStage r)))
-  collector-goes (Collector.raises-last r a b m e) = went (withProcess s (c .x) (flagged (processOf s (c .x)))) _ (rest s c 0 q _ (out a (round-out raiseStage r)) (round-out pollStage r))
-  collector-goes (Collector.polls-up r a b m e) = went s _ (rest s c 0 q _ (out a (round-out pollStage r)) (out a (round-out pollStage r)))
-  collector-goes (Collector.polls r a b m e h) = went s _ (rest s c 0 q _ (out a (round-out pollStage r)) (out a (round-out pollStage r)))
-  collector-goes (Collector.polls-last r a b m e h) = went s _ (rest s c 0 q _ (out a (round-out pollStage r)) (round-next r))
-  collector-goes (Collector.reads-sense a b e) = went s _ (rest s c 0 q _ (out a refl) refl)
+  collector-goes (Collector.fences r a b e) = went s _ (rest s w c 0 q _ (out a (round-out fenceStage r)) (round-out typeStage r))
+  collector-goes (Collector.types r a b v) = went (withProcesses (withHands s _) (allOff (s .procs))) _ (rest s w c 0 q _ (out a (round-out typeStage r)) (round-out raiseStage r))
+  collector-goes (Collector.raises r a b m e) = went (withProcess s (c .x) (flagged (processOf s (c .x)))) _ (rest s w c 0 q _ (out a (round-out raiseStage r)) (out a (round-out raiseStage r)))
+  collector-goes (Collector.raises-last r a b m e) = went (withProcess s (c .x) (flagged (processOf s (c .x)))) _ (rest s w c 0 q _ (out a (round-out raiseStage r)) (round-out pollStage r))
+  collector-goes (Collector.polls-up r a b m e) = went s _ (rest s w c 0 q _ (out a (round-out pollStage r)) (out a (round-out pollStage r)))
+  collector-goes (Collector.polls r a b m e h) = went s _ (rest s w c 0 q _ (out a (round-out pollStage r)) (out a (round-out pollStage r)))
+  collector-goes (Collector.polls-last r a b m e h) = went s _ (rest s w c 0 q _ (out a (round-out pollStage r)) (round-next r))
+  collector-goes (Collector.reads-sense a b e) = went s _ (rest s w c 0 q _ (out a refl) refl)
   collector-goes (Collector.writes-sense a b {m} e) = went (withMemory s m) _ (write-out a refl _ refl (store.Sense (not (q .sense))) refl e)
   collector-goes (Collector.writes-init a b {m} e) = went (withMemory s m) _ (write-out a refl _ refl (store.Phase phase.Init) refl e)
   collector-goes (Collector.writes-mark a b {m} e) = went (withMemory s m) _ (write-out a refl _ refl (store.Phase phase.Mark) refl e)
   collector-goes (Collector.writes-alloc a b {m} e) = went (withMemory s m) _ (write-out a refl _ refl (store.AllocSense (q .sense)) refl e)
-  collector-goes (Collector.takes a b h) = went (withHands s (withList (s .hands) noCells)) _ (rest s c 0 q _ (⊎-elim (λ i. out i refl) (λ i. out i refl) a) refl)
-  collector-goes (Collector.takes-none a b h) = went (withHands s (withList (s .hands) noCells)) _ (rest s c 0 q _ (⊎-elim (λ i. out i refl) (λ i. out i refl) a) refl)
-  collector-goes (Collector.reads-first a b m e h) = went s _ (rest s c 0 q _ (out a refl) refl)
-  collector-goes (Collector.reads-first-null a b m e) = went s _ (rest s c 0 q _ (out a refl) refl)
+  collector-goes (Collector.takes a b h) = went (withHands s (withList (s .hands) noCells)) _ (rest s w c 0 q _ (⊎-elim (λ i. out i refl) (λ i. out i refl) a) refl)
+  collector-goes (Collector.takes-none a b h) = went (withHands s (withList (s .hands) noCells)) _ (rest s w c 0 q _ (⊎-elim (λ i. out i refl) (λ i. out i refl) a) refl)
+  collector-goes (Collector.reads-first a b m e h) = went s _ (rest s w c 0 q _ (out a refl) refl)
+  collector-goes (Collector.reads-first-null a b m e) = went s _ (rest s w c 0 q _ (out a refl) refl)
   collector-goes (Collector.marks b i {m} e) = went (withMemory s m) _ (mark-goes i e)
-  collector-goes (Collector.reads-second a b e h) = went s _ (rest s c 0 q _ (out a refl) refl)
-  collector-goes (Collector.reads-second-null a b e) = went s _ (rest s c 0 q _ (out a refl) refl)
-  collector-goes (Collector.drops a b h) = went s _ (rest s c 0 q _ (out a refl) refl)
-  collector-goes (Collector.drops-last a b h) = went s _ (rest s c 0 q _ (out a refl) refl)
+  collector-goes (Collector.reads-second a b e h) = went s _ (rest s w c 0 q _ (out a refl) refl)
+  collector-goes (Collector.reads-second-null a b e) = went s _ (rest s w c 0 q _ (out a refl) refl)
+  collector-goes (Collector.drops a b h) = went s _ (rest s w c 0 q _ (out a refl) refl)
+  collector-goes (Collector.drops-last a b h) = went s _ (rest s w c 0 q _ (out a refl) refl)
   collector-goes (Collector.writes-sweep a b {m} e) = went (withMemory s m) _ (write-out a refl _ refl (store.Phase phase.Sweep) refl e)
-  collector-goes (Collector.spares a b m e h) = went s _ (rest s c 0 q _ (out a refl) (out a refl))
-  collector-goes (Collector.spares-last a b m e h) = went s _ (rest s c 0 q _ (out a refl) refl)
-  collector-goes (Collector.condemns a b m e) = went s _ (rest s c 0 q _ (out a refl) refl)
-  collector-goes (Collector.frees a b {m} e h) = went (withMemory s m) _ (Goes.outside (out a refl) refl (Outer.quiet (frees-quiet (s .memory) 0 (q .x) e)))
-  collector-goes (Collector.frees-last a b {m} e h) = went (withMemory s m) _ (Goes.outside (out a refl) refl (Outer.quiet (frees-quiet (s .memory) 0 (q .x) e)))
+  collector-goes (Collector.spares a b m e h) = went s _ (rest s w c 0 q _ (out a refl) (out a refl))
+  collector-goes (Collector.spares-last a b m e h) = went s _ (rest s w c 0 q _ (out a refl) refl)
+  collector-goes (Collector.condemns a b m e) = went s _ (rest s w c 0 q _ (out a refl) refl)
+  collector-goes (Collector.frees a b {m} e h) = went (withMemory s m) _ (Goes.outside (out a refl) refl (Outer.quiet (frees-quiet (s .memory) (w .memory) 0 (q .x) (sweep-free-at (a .place) f .is-x) e)))
+  collector-goes (Collector.frees-last a b {m} e h) = went (withMemory s m) _ (Goes.outside (out a refl) refl (Outer.quiet (frees-quiet (s .memory) (w .memory) 0 (q .x) (sweep-free-at (a .place) f .is-x) e)))
   collector-goes (Collector.writes-idle a b {m} e) = went (withMemory s m) _ (write-out a refl _ refl (store.Phase phase.Idle) refl e)
 
--- the process that steps is o after it: the array has its length before and after
+-- the process that steps is o after it
 arrives : {s t : State} {p : ℕ} {q : Process} → p < maxProcesses → WellFormed t → Went s p q t → Goes p q (s .memory) (processOf t p) (t .memory)
-arrives {p = p} l w (Went.went x o g) =
-    let k = length-set (x .procs) p o in
-    rw (same-process x p o (omega (arith, k, w .sized))) g
+arrives {p = p} l w (Went.went x o g) = rw (arrived x p o l w) g
 
 pub row-goes : {s t : State} {c : Choice} → WellFormed s → Row s c t → Goes (c .process) (mover s c) (s .memory) (processOf t (c .process)) (t .memory)
 row-goes {s} {t} {c} w (Row.collector k e r) =
     named (λ i. Goes i (processOf s i) (s .memory) (processOf t i) (t .memory)) e
-    (arrives {s = s} (omega arith) (row-kept s c w (Row.collector k e r)) (collector-goes s c (processOf s 0) r))
+    (arrives {s = s} (omega arith) (row-kept s c w (Row.collector k e r)) (collector-goes s w c (processOf s 0) (w .collector) r))
 row-goes {s} {t} {c} w (Row.mutator k {p} e pos mine r) =
     let few = w .memory .few-processes in
     named (λ i. Goes i (processOf s i) (s .memory) (processOf t i) (t .memory)) e
-    (arrives {s = s} (omega arith) (row-kept s c w (Row.mutator k e pos mine r)) (mutator-goes s c p (processOf s p) r))
+    (arrives {s = s} (omega arith) (row-kept s c w (Row.mutator k e pos mine r)) (mutator-goes s w c p (processOf s p) r))
 row-goes {s} {t} {c} w (Row.commits k e mine b h) = named (λ i. Goes i (processOf s i) (s .memory) (processOf t i) (t .memory)) e (Goes.commits h)
 
 -- ---- another process stays where it is

@@ -3,16 +3,14 @@
 --     sense-moves                    memory's fM stays, or every mutator's handshake phase is Idle
 --     opening-noted, step-noted      at the opening, and after each step
 --     holder-noted                   so the holder of the lock has noted it
---     run-senses, run-written, run-noted      after any choices
 use mathlib.Core.Path.{_≡_, refl, sym, ap, _∙_}
 use mathlib.Core.Bool.{Bool, true, false, false≢true}
-use mathlib.Core.List.{List, _∷_, List·Memᴰ, List·Memᴰ·head}
+use mathlib.Core.List.{List, _∷_, List·Memᴰ·head}
 use mathlib.Core.Logic.{_⊎_, inl, inr}
 use Prim.Native.Nat.{ℕ, zero, suc, _≤_, _<_}
 use native.Mathlib.Omega.{arith}
 use native.Mathlib.Decide.{ℕ-discrete, decLt}
 use lib.Dec.{eqb, leb, ltb}
-use lib.ListN.{length-set}
 use borrow.Author.Tests.{eqb-true}
 use Rattle.cells.proofs.Bools.{split, not-both}
 use Rattle.buffers.specs.declared.Phase.{Phase}
@@ -30,6 +28,7 @@ use Rattle.memory.proofs.Shapes.{Shaped, pendingFor, pending-is, view-misses}
 use Rattle.memory.proofs.Spots.{held-phase}
 use Rattle.memory.proofs.Sights.{look-phase-taken}
 use Rattle.memory.proofs.Effects.{write-taken, lock-taken, unlock-taken, commit-taken}
+use Rattle.sound.specs.WellFormed as sound
 use Rattle.sound.proofs.Shapes.{shaped}
 use Rattle.state.specs.declared.Handshake.the-variants as hand
 use Rattle.state.specs.declared.Kind.{Kind}
@@ -44,24 +43,20 @@ use Rattle.fits.specs.Fits.{HeapFits, WellFormed}
 use Rattle.rows.specs.Offers.{markPlace}
 use Rattle.rows.specs.Rows.{At, seesPhase, Marks, Next, Mark, Branch, Mutator, withList, Row}
 use Rattle.rows.proofs.Picking.{pick-ind}
-use Rattle.kept.specs.Leaves.{Stored, Beside}
+use Rattle.kept.specs.Leaves.{Beside}
 use Rattle.kept.proofs.Frames.{named}
-use Rattle.claims.proofs.Processes.{same-process}
+use Rattle.claims.proofs.Processes.{arrived}
 use Rattle.kept.proofs.Kept.{row-kept}
-use Rattle.kept.proofs.Leaves.{row-memory, row-others, row-counts}
-use Rattle.claims.specs.Runs.{Always}
+use Rattle.kept.proofs.Leaves.{row-others, row-counts}
 use Rattle.claims.specs.Lock.{insideAt, Inside, Lock}
-use Rattle.claims.specs.Pending.{MarkOrField, MutatorStores}
+use Rattle.claims.specs.Pending.{MarkOrField, MarksAndFields, MutatorStores}
 use Rattle.claims.specs.Handshakes.{Handshakes}
-use Rattle.claims.specs.Written.{entryFor, Written, RunWritten}
-use Rattle.claims.specs.Noted.{reachedAt, Reached, NotedBy, Noted, HolderNoted, RunNoted}
-use Rattle.claims.proofs.Moves.{allocates-quiet, frees-quiet, site}
+use Rattle.claims.specs.Written.{entryFor, Written}
+use Rattle.claims.specs.Noted.{reachedAt, Reached, NotedBy, Noted, HolderNoted}
+use Rattle.claims.proofs.Moves.{Outer, Goes, row-goes, site}
+use Rattle.claims.proofs.Commits.{senseAfter, fm-after}
 use Rattle.claims.proofs.Senses.{flip-idle, idle-phase, scan-sense}
-use Rattle.claims.proofs.Handshakes.{step-handshakes, opening-handshakes}
-use Rattle.claims.proofs.Lock.{run-lock}
-use Rattle.claims.proofs.Pending.{step-mutator-stores, opening-mutator-stores}
-use Rattle.claims.proofs.Runs.{always, run-formed}
-use Rattle.claims.proofs.Written.{senseAfter, fm-after, sees-sense, step-written, opening-written}
+use Rattle.claims.proofs.Written.{sees-sense}
 
 -- ---- before the read of the phase there is nothing to note
 record Early (q : Process) : Type 0 where
@@ -90,9 +85,6 @@ branch-early Branch.roots i = (refl, refl)
 branch-early Branch.work i = (refl, refl)
 
 -- ---- a mutator reads fM and the phase from memory: neither waits in its buffer
-abbrev Plainly : List Entry → Type 0
-Plainly l = (e : Entry) → List·Memᴰ e l → MarkOrField (e .store)
-
 misses-sense : {v : Store} → MarkOrField v → hitsOf spot.Sense v ≡ false
 unfolding hitsOf
 misses-sense MarkOrField.mark = refl
@@ -103,7 +95,7 @@ unfolding hitsOf
 misses-phase MarkOrField.mark = refl
 misses-phase MarkOrField.field = refl
 
-sees-phase : (m : Memory) (p : ℕ) {h : Phase} → Plainly (pendingFor m p) → lookPhaseOf m p ≡ seesPhase h → h ≡ m .phase .phase
+sees-phase : (m : Memory) (p : ℕ) {h : Phase} → MarksAndFields (pendingFor m p) → lookPhaseOf m p ≡ seesPhase h → h ≡ m .phase .phase
 sees-phase m p f e =
     let k = look-phase-taken m p (ap (λ (i : SeenPhase). i .no) e) in
     let g = view-misses m p spot.Phase (λ x i. misses-phase (f x i)) in
@@ -122,7 +114,7 @@ module _ {q : Process} {r : ℕ} (i : Marks q r) where
         left = λ _ z. v .left (here lockStage e h) (sym (ap (λ u. u .phase) y) ∙ z);
       }
 
-mark-noted : {m n : Memory} {p r : ℕ} {q t : Process} → Shaped m → Plainly (pendingFor m p) → (q .part .phase ≡ hand.Idle → m .phase .phase ≡ phase.Idle) → Marks q r → Mark m p r q n t → NotedBy (m .fm) q → NotedBy (n .fm) t
+mark-noted : {m n : Memory} {p r : ℕ} {q t : Process} → Shaped m → MarksAndFields (pendingFor m p) → (q .part .phase ≡ hand.Idle → m .phase .phase ≡ phase.Idle) → Marks q r → Mark m p r q n t → NotedBy (m .fm) q → NotedBy (n .fm) t
 mark-noted {m} z f d i (Mark.looks e g) v = early (m .fm) (record { sense = rw (site i) refl; lock = rw (site i) refl })
 mark-noted {m} z f d i (Mark.equal e g h) v = early (m .fm) (next-early h)
 mark-noted {m} {p = p} z f d i (Mark.unequal e g) v =
@@ -158,7 +150,7 @@ module _ (s : State) (c : Choice) (p : ℕ) (w : WellFormed s) where
   fresh : (x : State) (o : Process) → reachedAt phaseStage (o .place) (o .stage) ≡ false → reachedAt lockStage (o .place) (o .stage) ≡ false → Ends p (withProcess x p o)
   fresh x o e f = Ends.ends x o (early (x .memory .fm) (record { sense = e; lock = f }))
 
-  mutator-noted : {t : State} → Plainly (pendingFor (s .memory) p) → (q .part .phase ≡ hand.Idle → s .memory .phase .phase ≡ phase.Idle) → NotedBy (s .memory .fm) q → Mutator s c p q t → Ends p t
+  mutator-noted : {t : State} → MarksAndFields (pendingFor (s .memory) p) → (q .part .phase ≡ hand.Idle → s .memory .phase .phase ≡ phase.Idle) → NotedBy (s .memory .fm) q → Mutator s c p q t → Ends p t
   mutator-noted f d v (Mutator.allocates a o x l g y {m = n} e) = stay (withMemory s n) _ (record { place = a .place; stage = a .stage }) refl refl
   mutator-noted f d v (Mutator.drops a o m g y) = stay s _ (record { place = a .place; stage = a .stage }) refl refl
   mutator-noted f d v (Mutator.reads a o m g y e h) = stay s _ (record { place = a .place; stage = a .stage }) refl refl
@@ -194,16 +186,17 @@ commit-moves {p} {m} {n} o {l} e f = go (o .store) (e ∙ refl) f
     go (store.AllocSense b) g h = Moved.same h
     go (store.Phase i) g h = Moved.same h
 
-stored-moves : {c : Choice} {p : ℕ} {q : Process} {m n : Memory} → Shaped m → Stored c p q m n → Moved p m n
-stored-moves z Stored.same = Moved.same refl
-stored-moves {p = p} z (Stored.writes k w e) = Moved.same (write-taken p _ z e .alike .fm)
-stored-moves {p = p} z (Stored.locks k i j e) = Moved.same (lock-taken p e .after .alike .fm)
-stored-moves {p = p} z (Stored.unlocks k i j e) = Moved.same (unlock-taken p z e .after .alike .fm)
-stored-moves {c} {p} {m = m} z (Stored.allocates k a o e) = Moved.same (allocates-quiet m p (c .x) e .fm)
-stored-moves {p = p} {q} {m} z (Stored.frees k a e) = Moved.same (frees-quiet m p (q .x) e .fm)
-stored-moves {p = p} {m = m} z (Stored.commits k e) =
-    let g = commit-taken p z e in
-    commit-moves (g .oldest) (g .before) (g .alike .fm ∙ fm-after m (g .oldest .store))
+outer-moves : {p : ℕ} {m n : Memory} → Shaped m → Outer p m n → Moved p m n
+outer-moves z (Outer.quiet k) = Moved.same (k .fm)
+outer-moves {p} z (Outer.writes {v} k i e) = Moved.same (write-taken p (entryFor v) z e .alike .fm)
+
+goes-moves : {p : ℕ} {q o : Process} {m n : Memory} → sound.WellFormed m → Goes p q m o n → Moved p m n
+goes-moves {p} w (Goes.locks a b e) = Moved.same (lock-taken p e .after .alike .fm)
+goes-moves w (Goes.looks a u b) = Moved.same refl
+goes-moves {p} {m = m} w (Goes.writes a u b v r d e) = Moved.same (write-taken p _ (shaped m w) e .alike .fm)
+goes-moves {p} {m = m} w (Goes.unlocks a b e) = Moved.same (unlock-taken p (shaped m w) e .after .alike .fm)
+goes-moves {m = m} w (Goes.outside a b e) = outer-moves (shaped m w) e
+goes-moves {p} {m = m} w (Goes.commits e) = let k = commit-taken p (shaped m w) e in commit-moves (k .oldest) (k .before) (fm-after w p k)
 
 no-sense : {x : Bool} → MarkOrField (store.Sense x) → ⊥
 no-sense v = false≢true (go v)
@@ -224,11 +217,11 @@ abbrev Idle : State → Type 0
 Idle s = (m : ℕ) → 0 < m → m ≤ mutatorsOf s → processOf s m .part .phase ≡ hand.Idle
 
 module _ (s : State) (c : Choice) (w : WellFormed s) (f : MutatorStores s) (v : Handshakes s) (k : Written s) where
-  plainly : (p : ℕ) → 0 < p → Plainly (pendingFor (s .memory) p)
+  plainly : (p : ℕ) → 0 < p → MarksAndFields (pendingFor (s .memory) p)
   plainly p pos = rw (pending-is (s .memory) p) (f p pos)
 
   sense-moves : {t : State} → Row s c t → (t .memory .fm ≡ s .memory .fm) ⊎ Idle s
-  sense-moves {t} r = go (stored-moves (shaped (s .memory) (w .memory)) (row-memory r)) (ℕ-discrete (c .process) 0)
+  sense-moves {t} r = go (goes-moves (w .memory) (row-goes w r)) (ℕ-discrete (c .process) 0)
     where
       go : Moved (c .process) (s .memory) (t .memory) → Dec (c .process ≡ 0) → (t .memory .fm ≡ s .memory .fm) ⊎ Idle s
       go (Moved.same e) d = inl e
@@ -244,11 +237,9 @@ module _ (s : State) (c : Choice) (w : WellFormed s) (f : MutatorStores s) (v : 
   stays m a b (inr e) (Beside.raises r x y) n = record { sense = λ _ g. absurd (g (e m a b)); left = n .left }
   stays m a b (inr e) (Beside.types r x) n = record { sense = λ _ g. absurd (g (e m a b)); left = n .left }
 
-  -- the mutator that steps: the array of processes has its length before and after
+  -- the mutator that steps
   arrives : {p : ℕ} {t : State} → p < maxProcesses → WellFormed t → Ends p t → NotedBy (t .memory .fm) (processOf t p)
-  arrives {p} l g (Ends.ends x o n) =
-      let i = length-set (x .procs) p o in
-      rw (same-process x p o (omega (arith, i, g .sized))) n
+  arrives {p} l g (Ends.ends x o n) = rw (arrived x p o l g) n
 
   step-at : {t : State} → Noted s → Row s c t → (m : ℕ) → 0 < m → m ≤ mutatorsOf s → Dec (m ≡ c .process) → NotedBy (t .memory .fm) (processOf t m)
   step-at {t} n r m a b (no d) = stays m a b (sense-moves r) (row-others w r m d) (n m a b)
@@ -309,28 +300,3 @@ holder-noted s w l k n p e = go (ℕ-discrete p 0) (decLt (mutatorsOf s) p) (l p
         let r = inside-reached (processOf s p .place) (processOf s p .stage) i in
         let v = n p (omega arith) (omega arith) in
         v .sense (r .0) (v .left (r .1))
-
--- ---- after any choices
-record Senses (s : State) : Type 0 where
-  stores : MutatorStores s
-  hands : Handshakes s
-  written : Written s
-  noted : Noted s
-
-run-senses : Always Senses
-run-senses =
-    always Senses
-    (λ s c t w v r.
-    record {
-      stores = step-mutator-stores s c w (v .stores) r;
-      hands = step-handshakes s c w (v .hands) r;
-      written = step-written s c w (v .stores) (v .written) r;
-      noted = step-noted s c w (v .stores) (v .hands) (v .written) (v .noted) r;
-    })
-    (λ h f. record { stores = opening-mutator-stores h f; hands = opening-handshakes h f; written = opening-written h f; noted = opening-noted h f })
-
-pub run-written : RunWritten
-run-written h f cs = run-senses h f cs .written
-
-pub run-noted : RunNoted
-run-noted h f cs = let v = run-senses h f cs in holder-noted _ (run-formed h f cs) (run-lock h f cs) (v .written) (v .noted)

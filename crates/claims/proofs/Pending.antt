@@ -2,11 +2,10 @@
 --     opening-marks, step-marks                   MarksWait at the opening, and after each step
 --     opening-mutator-stores, step-mutator-stores     MutatorStores likewise
 --     marks-locked                                with the lock's law: under the lock, and one in all buffers
---     run-marks-wait, run-marks, run-mutator-stores   after any choices
 use mathlib.Core.Path.{_≡_, refl, sym, ap, _∙_, subst}
 use mathlib.Core.Bool.{Bool, true, false}
-use mathlib.Core.Logic.{_⊎_, ⊎-elim}
-use mathlib.Core.List.{List, [], _∷_, _++_, List·Memᴰ, List·Memᴰ·tail, List·Memᴰ·not-nil, List·Memᴰ·append-cases, List·Memᴰ·eq-of-singleton}
+use mathlib.Core.Logic.{⊎-elim}
+use mathlib.Core.List.{List, [], _∷_, _++_, List·Memᴰ·tail, List·Memᴰ·not-nil, List·Memᴰ·append-cases, List·Memᴰ·eq-of-singleton}
 use Prim.Native.Nat.{ℕ, zero, suc, _+_, _≤_, _<_}
 use native.Mathlib.Omega.{arith}
 use native.Mathlib.Decide.{ℕ-discrete}
@@ -28,10 +27,7 @@ use Rattle.state.specs.Openings.{openMemory, openingOf}
 use Rattle.fits.specs.Fits.{HeapFits, WellFormed}
 use Rattle.rows.specs.Rows.{Row}
 use Rattle.claims.specs.Lock.{Inside, Lock}
-use Rattle.claims.specs.Pending.{waitingOf, isMark, marksIn, Unlocking, MarksWait, MarksLocked, MarkOrField, MutatorStores, RunMarks, RunMutatorStores}
-use Rattle.claims.specs.Runs.{Always}
-use Rattle.claims.proofs.Runs.{always}
-use Rattle.claims.proofs.Lock.{run-lock}
+use Rattle.claims.specs.Pending.{waitingOf, isMark, marksIn, OneAtMost, Unlocking, MarksWait, MarksLocked, MarkOrField, MarksAndFields, MutatorStores}
 use Rattle.claims.proofs.Moves.{insideOf, unlockOn, Outer, Goes, row-goes, others-unlocking, outside-unlocking}
 
 -- ---- counting marks
@@ -53,7 +49,7 @@ count-less e l = go (isMark (e .store))
 -- ---- of one process: its pending stores l and q
 record Waits (l : List Entry) (q : Process) : Type 0 where
   waits : 0 < marksIn l → Unlocking q
-  one : marksIn l ≤ 1
+  one : OneAtMost l
 
 -- elsewhere than at the unlock no mark waits
 none : {l : List Entry} {q : Process} → Waits l q → unlockOn q ≡ false → marksIn l ≡ 0
@@ -101,20 +97,17 @@ goes-marks {p} {m = m} {n} z w (Goes.commits e) =
     record { waits = λ h. w .waits (omega arith); one = let g = w .one in omega arith }
 
 -- ---- its stores, where it is a mutator
-abbrev Allowed : List Entry → Type 0
-Allowed l = (e : Entry) → List·Memᴰ e l → MarkOrField (e .store)
-
-allowed-more : (l : List Entry) (v : Store) → Allowed l → MarkOrField v → Allowed (l ++ (record { store = v } ∷ []))
+allowed-more : (l : List Entry) (v : Store) → MarksAndFields l → MarkOrField v → MarksAndFields (l ++ (record { store = v } ∷ []))
 allowed-more l v f k e i = ⊎-elim (f e) (λ j. subst (λ (x : Entry). MarkOrField (x .store)) (sym (List·Memᴰ·eq-of-singleton j)) k) (List·Memᴰ·append-cases l i)
 
-same-allowed : {l k : List Entry} → k ≡ l → Allowed l → Allowed k
+same-allowed : {l k : List Entry} → k ≡ l → MarksAndFields l → MarksAndFields k
 same-allowed e f = rw e f
 
-outer-stores : {p : ℕ} {m n : Memory} → Shaped m → 0 < p → Allowed (pendingFor m p) → Outer p m n → Allowed (pendingFor n p)
+outer-stores : {p : ℕ} {m n : Memory} → Shaped m → 0 < p → MarksAndFields (pendingFor m p) → Outer p m n → MarksAndFields (pendingFor n p)
 outer-stores {p} z pos f (Outer.quiet k) = same-allowed (k .pending p) f
 outer-stores {p} {m} z pos f (Outer.writes {v} k h e) = same-allowed (write-taken p (record { store = v }) z e .own) (allowed-more (pendingFor m p) v f (h pos))
 
-goes-stores : {p : ℕ} {q o : Process} {m n : Memory} → Shaped m → 0 < p → Allowed (pendingFor m p) → Goes p q m o n → Allowed (pendingFor n p)
+goes-stores : {p : ℕ} {q o : Process} {m n : Memory} → Shaped m → 0 < p → MarksAndFields (pendingFor m p) → Goes p q m o n → MarksAndFields (pendingFor n p)
 goes-stores {p} z pos f (Goes.locks a b e) = same-allowed (lock-taken p e .after .pending p) f
 goes-stores z pos f (Goes.looks a u b) = f
 goes-stores {p} {m = m} z pos f (Goes.writes a u b v r d e) = same-allowed (write-taken p _ z e .own) (allowed-more (pendingFor m p) (store.Mark r d) f MarkOrField.mark)
@@ -156,7 +149,7 @@ module _ (s : State) (c : Choice) {t : State} (w : WellFormed s) where
       after : (p : ℕ) → Waits (pendingFor (t .memory) p) (processOf t p)
       after p = marks-at before r p (ℕ-discrete p (c .process))
 
-  stores-at : ((p : ℕ) → 0 < p → Allowed (pendingFor (s .memory) p)) → Row s c t → (p : ℕ) → 0 < p → Dec (p ≡ c .process) → Allowed (pendingFor (t .memory) p)
+  stores-at : ((p : ℕ) → 0 < p → MarksAndFields (pendingFor (s .memory) p)) → Row s c t → (p : ℕ) → 0 < p → Dec (p ≡ c .process) → MarksAndFields (pendingFor (t .memory) p)
   stores-at k r p pos (yes e) = rw e (goes-stores (shaped (s .memory) (w .memory)) (rw e at pos) (k (c .process) (rw e at pos)) (row-goes w r))
   stores-at k r p pos (no e) = same-allowed (others-pending p (shaped (s .memory) (w .memory)) e (row-goes w r)) (k p pos)
 
@@ -177,13 +170,3 @@ marks-locked s l k =
   where
     held : (p : ℕ) → 0 < marksIn (waitingOf s p) → s .memory .lock ≡ p + 1
     held p i = l p .1 (unlock-inside (processOf s p) (k .waits p i))
-
--- ---- after any choices
-pub run-marks-wait : Always MarksWait
-run-marks-wait = always MarksWait (λ s c t. step-marks s c) opening-marks
-
-pub run-marks : RunMarks
-run-marks h f cs = marks-locked _ (run-lock h f cs) (run-marks-wait h f cs)
-
-pub run-mutator-stores : RunMutatorStores
-run-mutator-stores = always MutatorStores (λ s c t. step-mutator-stores s c) opening-mutator-stores

@@ -7,7 +7,7 @@
 --     Seat, mark-seat, mark-part      a step of a mark: it stays or leads to the place after the mark, and the part in the handshakes is left alone
 --     scan-rests             the collector's marks rest
 use mathlib.Core.Path.{_≡_, refl, sym, _∙_}
-use mathlib.Core.Bool.{Bool, true, false, false≢true}
+use mathlib.Core.Bool.{Bool, false, false≢true}
 use Prim.Native.Nat.{ℕ}
 use lib.Dec.{leb}
 use Rattle.base.specs.Pick.{pick}

@@ -36,6 +36,7 @@ use Rattle.claims.specs.Handshakes.{Handshakes}
 use Rattle.claims.specs.Written.{Stretch, Moment, stretchOf, momentOf, entryFor, Wrote, Written}
 use Rattle.claims.proofs.Posted.{busyOf}
 use Rattle.claims.proofs.Flags.{settled}
+use Rattle.claims.proofs.Answering.{implied}
 use Rattle.claims.proofs.Handshakes.{settled-handshakes}
 
 -- ---- the collector's places and stages
@@ -62,9 +63,6 @@ ruled t c s w =
     let q = processOf s 0 in
     let a = stands (s .memory .cells) (mutatorsOf s) q (w .collector .notes) in
     all-true (λ k. t k (q .stage)) collectorPlaces (all-below (λ j. allOf (λ k. t k j) collectorPlaces ≡ true) stages c (q .stage) (a .1)) (q .place) (a .0)
-
-implied : (a : Bool) {b : Bool} → pick a b true ≡ true → a ≡ true → b ≡ true
-implied a e f = rw f at e
 
 -- ---- handshake phases
 abbrev idleOf : Handshake → Bool

@@ -2,18 +2,17 @@
 --     Known             the same over a process and a memory
 --     collector-known   every row of the collector's
 --     commit-known      its commits
---     stored-keeps      what the mutators do to memory
+--     goes-keeps        what the mutators do to memory
 --     sees-sense        what a read of fM sees
 --     opening-written, step-written     at the opening, and after each step
 use mathlib.Core.Path.{_≡_, refl, sym, ap, _∙_}
 use mathlib.Core.Bool.{Bool, true, false, not, false≢true}
-use mathlib.Core.List.{List, [], _∷_, _++_, List·Memᴰ, List·Memᴰ·head}
+use mathlib.Core.List.{List, [], _∷_, _++_, List·Memᴰ·head}
 use mathlib.Core.Logic.{inl, inr}
 use Prim.Native.Nat.{ℕ}
 use native.Mathlib.Omega.{arith}
 use native.Mathlib.Decide.{ℕ-discrete}
 use lib.Dec.{eqb}
-use lib.ListN.{length-set}
 use Rattle.cells.specs.Sets.{noCells}
 use Rattle.buffers.specs.declared.Phase.{Phase}
 use Rattle.buffers.specs.declared.Phase.the-variants as phase
@@ -26,12 +25,13 @@ use Rattle.memory.specs.declared.Memory.{Memory}
 use Rattle.memory.specs.declared.SeenBit.{SeenBit}
 use Rattle.memory.specs.declared.Standing.{Standing}
 use Rattle.memory.specs.Steps.{writeOf, commitOf}
-use Rattle.memory.specs.Memories.{taken, heldOf, appliedOf}
+use Rattle.memory.specs.Memories.{taken, heldOf}
 use Rattle.memory.specs.Looks.{lookSenseOf}
 use Rattle.memory.proofs.Shapes.{Shaped, pendingFor, pending-is, view-empty, viewOf}
 use Rattle.memory.proofs.Spots.{Alike, held-sense}
 use Rattle.memory.proofs.Sights.{look-sense-taken}
-use Rattle.memory.proofs.Effects.{write-taken, fence-taken, lock-taken, unlock-taken, commit-taken}
+use Rattle.memory.proofs.Effects.{Committed, write-taken, fence-taken, lock-taken, unlock-taken, commit-taken}
+use Rattle.sound.specs.WellFormed as sound
 use Rattle.sound.proofs.Shapes.{shaped}
 use Rattle.state.specs.declared.Kind.{Kind}
 use Rattle.state.specs.declared.Process.{Process}
@@ -40,18 +40,19 @@ use Rattle.state.specs.declared.Choice.{Choice}
 use Rattle.state.specs.declared.opening.Heap.{Heap}
 use Rattle.state.specs.Openings.{openMemory, openCollector, openingOf}
 use Rattle.state.specs.Codes.{row7Mark0, row7Mark1, lookStage, senseStage, phaseStage, lockStage, againStage, writeStage, unlockStage, fenceStage, typeStage, raiseStage, pollStage}
-use Rattle.state.specs.States.{mutatorsOf, processOf, withProcess, withMemory, withHands}
+use Rattle.state.specs.States.{processOf, withProcess, withMemory, withHands}
 use Rattle.fits.specs.Fits.{Among, scanMarkPlaces, HeapFits, WellFormed}
 use Rattle.rows.specs.Rows.{At, seesBit, Marks, unnoted, Next, Mark, Round, withList, allOff, withProcesses, flagged, Collector, Row}
-use Rattle.kept.specs.Leaves.{Stored, Beside}
+use Rattle.kept.specs.Leaves.{Beside}
 use Rattle.kept.proofs.Frames.{named}
-use Rattle.claims.proofs.Processes.{same-process}
-use Rattle.fits.proofs.Gives.{collector-within}
+use Rattle.claims.proofs.Processes.{arrived}
+use Rattle.fits.proofs.Gives.{collector-within, sweep-free-at}
 use Rattle.kept.proofs.Kept.{row-kept}
-use Rattle.kept.proofs.Leaves.{row-memory, row-others}
-use Rattle.claims.specs.Pending.{MarkOrField, MutatorStores}
+use Rattle.kept.proofs.Leaves.{row-others}
+use Rattle.claims.specs.Pending.{MarkOrField, MarksAndFields, MutatorStores}
 use Rattle.claims.specs.Written.{Stretch, Moment, stretchOf, momentOf, entryFor, Wrote, Written}
-use Rattle.claims.proofs.Moves.{Quiet, allocates-quiet, frees-quiet}
+use Rattle.claims.proofs.Moves.{Quiet, Outer, Goes, row-goes, frees-quiet}
+use Rattle.claims.proofs.Commits.{senseAfter, allocAfter, phaseAfter, fm-after, fa-after, phase-after}
 
 abbrev pub Known : Process → Memory → Type 0
 Known q m = Wrote (q .sense) (stretchOf (q .place)) (momentOf (q .place) (q .stage)) (pendingFor m 0) (m .fm) (m .fa) (m .phase .phase)
@@ -112,27 +113,6 @@ mark-sense : {n : Bool} {l : List Entry} {b d : Bool} {h : Phase} → Wrote n St
 mark-sense Wrote.marks = (refl, Wrote.marks)
 
 -- ---- the commits of the collector's stores
-abbrev pub senseAfter : Store → Bool → Bool
-senseAfter (store.Mark c b) x = x
-senseAfter (store.Field c f v) x = x
-senseAfter (store.Sense b) x = b
-senseAfter (store.AllocSense b) x = x
-senseAfter (store.Phase h) x = x
-
-abbrev allocAfter : Store → Bool → Bool
-allocAfter (store.Mark c b) x = x
-allocAfter (store.Field c f v) x = x
-allocAfter (store.Sense b) x = x
-allocAfter (store.AllocSense b) x = b
-allocAfter (store.Phase h) x = x
-
-abbrev phaseAfter : Store → Phase → Phase
-phaseAfter (store.Mark c b) x = x
-phaseAfter (store.Field c f v) x = x
-phaseAfter (store.Sense b) x = x
-phaseAfter (store.AllocSense b) x = x
-phaseAfter (store.Phase h) x = h
-
 after : {n : Bool} {z : Stretch} {w : Moment} {o : Entry} {l : List Entry} {b d : Bool} {h : Phase} → Wrote n z w (o ∷ l) b d h → Wrote n z w l (senseAfter (o .store) b) (allocAfter (o .store) d) (phaseAfter (o .store) h)
 after Wrote.both-idle = Wrote.idle
 after Wrote.idle = Wrote.rests
@@ -145,62 +125,36 @@ after Wrote.overtaken = Wrote.allocated
 after Wrote.mark = Wrote.marks
 after Wrote.sweep = Wrote.sweeps
 
-module _ (m : Memory) where
-  pub fm-after : (v : Store) → appliedOf m v .fm ≡ senseAfter v (m .fm)
-  unfolding appliedOf
-  fm-after (store.Mark c b) = refl
-  fm-after (store.Field c f v) = refl
-  fm-after (store.Sense b) = refl
-  fm-after (store.AllocSense b) = refl
-  fm-after (store.Phase h) = refl
-
-  fa-after : (v : Store) → appliedOf m v .fa ≡ allocAfter v (m .fa)
-  unfolding appliedOf
-  fa-after (store.Mark c b) = refl
-  fa-after (store.Field c f v) = refl
-  fa-after (store.Sense b) = refl
-  fa-after (store.AllocSense b) = refl
-  fa-after (store.Phase h) = refl
-
-  phase-after : (v : Store) → appliedOf m v .phase .phase ≡ phaseAfter v (m .phase .phase)
-  unfolding appliedOf
-  phase-after (store.Mark c b) = refl
-  phase-after (store.Field c f v) = refl
-  phase-after (store.Sense b) = refl
-  phase-after (store.AllocSense b) = refl
-  phase-after (store.Phase h) = refl
-
 like : {n : Bool} {z : Stretch} {w : Moment} {l k : List Entry} {b c d e : Bool} {h i : Phase} → k ≡ l → c ≡ b → e ≡ d → i ≡ h → Wrote n z w l b d h → Wrote n z w k c e i
 like e f g i v = rw (e, f, g, i) v
 
 abbrev standing : Standing → Phase
 standing i = i .phase
 
-commit-known : (q : Process) {m n : Memory} → Shaped m → commitOf m 0 ≡ taken n → Known q m → Known q n
-commit-known q {m} {n} z e v =
-    let k = commit-taken 0 z e in
-    let o = k .oldest .store in
-    like (k .own) (k .alike .fm ∙ fm-after m o) (k .alike .fa ∙ fa-after m o) (ap standing (k .alike .phase) ∙ phase-after m o) (after (rw (k .before) at v))
+commit-known : (q : Process) {m n : Memory} → sound.WellFormed m → commitOf m 0 ≡ taken n → Known q m → Known q n
+commit-known q {m} w e v =
+    let k = commit-taken 0 (shaped m w) e in
+    like (k .own) (fm-after w 0 k) (fa-after w 0 k) (phase-after w 0 k) (after (rw (k .before) at v))
 
 -- ---- what memory keeps of it
 record Keeps (m n : Memory) : Type 0 where
   pending : pendingFor n 0 ≡ pendingFor m 0
   fm : n .fm ≡ m .fm
   fa : n .fa ≡ m .fa
-  phase : n .phase ≡ m .phase
+  phase : n .phase .phase ≡ m .phase .phase
 
 keep : {x : Bool} {z : Stretch} {w : Moment} {m n : Memory} → Keeps m n → Wrote x z w (pendingFor m 0) (m .fm) (m .fa) (m .phase .phase) → Wrote x z w (pendingFor n 0) (n .fm) (n .fa) (n .phase .phase)
-keep k v = like (k .pending) (k .fm) (k .fa) (ap standing (k .phase)) v
+keep k v = like (k .pending) (k .fm) (k .fa) (k .phase) v
 
 add : {x : Bool} {z : Stretch} {w : Moment} {m n : Memory} (v : Store) → Shaped m → writeOf m 0 (entryFor v) ≡ taken n → Wrote x z w (pendingFor m 0 ++ (entryFor v ∷ [])) (m .fm) (m .fa) (m .phase .phase) →
     Wrote x z w (pendingFor n 0) (n .fm) (n .fa) (n .phase .phase)
 add v z e g = let k = write-taken 0 (entryFor v) z e in like (k .own) (k .alike .fm) (k .alike .fa) (ap standing (k .alike .phase)) g
 
 alike-keeps : {m n : Memory} → pendingFor n 0 ≡ pendingFor m 0 → Alike m n → Keeps m n
-alike-keeps e a = record { pending = e; fm = a .fm; fa = a .fa; phase = a .phase }
+alike-keeps e a = record { pending = e; fm = a .fm; fa = a .fa; phase = ap standing (a .phase) }
 
 quiet-keeps : {m n : Memory} → Quiet m n → Keeps m n
-quiet-keeps k = record { pending = k .pending 0; fm = k .fm; fa = k .fa; phase = k .phase }
+quiet-keeps k = record { pending = k .pending 0; fm = k .fm; fa = k .fa; phase = ap standing (k .phase) }
 
 -- ---- a read of fM
 pub sees-sense : (m : Memory) (p : ℕ) {b : Bool} → viewOf m p spot.Sense ≡ heldOf m spot.Sense → lookSenseOf m p ≡ seesBit b → b ≡ m .fm
@@ -350,32 +304,32 @@ module _ (s : State) (c : Choice) (w : WellFormed s) where
   collector-known (Collector.spares a b i e h) v = Turned.turned s _ v
   collector-known (Collector.spares-last a b i e h) v = Turned.turned s _ (at-known m a v)
   collector-known (Collector.condemns a b i e) v = Turned.turned s _ (at-known m a v)
-  collector-known (Collector.frees a b {m = n} e h) v = Turned.turned (withMemory s n) _ (keep (quiet-keeps (frees-quiet m 0 (q .x) e)) (at-known m a v))
-  collector-known (Collector.frees-last a b {m = n} e h) v = Turned.turned (withMemory s n) _ (keep (quiet-keeps (frees-quiet m 0 (q .x) e)) (at-known m a v))
+  collector-known (Collector.frees a b {m = n} e h) v = Turned.turned (withMemory s n) _ (keep (quiet-keeps (frees-quiet m (w .memory) 0 (q .x) (sweep-free-at (a .place) (w .collector) .is-x) e)) (at-known m a v))
+  collector-known (Collector.frees-last a b {m = n} e h) v = Turned.turned (withMemory s n) _ (keep (quiet-keeps (frees-quiet m (w .memory) 0 (q .x) (sweep-free-at (a .place) (w .collector) .is-x) e)) (at-known m a v))
   collector-known (Collector.writes-idle a b {m = n} e) v = Turned.turned (withMemory s n) _ (add (store.Phase phase.Idle) z e (write-idle (at-known m a v)))
 
--- the array of processes has its length before and after
 arrives : {t : State} → WellFormed t → Turned t → Known (processOf t 0) (t .memory)
-arrives w (Turned.turned x o g) =
-    let k = length-set (x .procs) 0 o in
-    rw (same-process x 0 o (omega (arith, k, w .sized))) g
+arrives w (Turned.turned x o g) = rw (arrived x 0 o (omega arith) w) g
 
 -- ---- the mutators' steps: their stores are marks and fields
-oldest-keeps : {m n : Memory} {v : Store} → MarkOrField v → pendingFor n 0 ≡ pendingFor m 0 → Alike (appliedOf m v) n → Keeps m n
-unfolding appliedOf
-oldest-keeps MarkOrField.mark e a = record { pending = e; fm = a .fm; fa = a .fa; phase = a .phase }
-oldest-keeps MarkOrField.field e a = record { pending = e; fm = a .fm; fa = a .fa; phase = a .phase }
+oldest-keeps : {m n : Memory} (p : ℕ) → (0 ≡ p → ⊥) → sound.WellFormed m → MarksAndFields (pendingFor m p) → Committed m p n → Keeps m n
+oldest-keeps {m} {n} p ne w f k = go (f (k .oldest) (rw (k .before) (List·Memᴰ·head refl))) (fm-after w p k) (fa-after w p k) (phase-after w p k)
+  where
+    go : {v : Store} → MarkOrField v → n .fm ≡ senseAfter v (m .fm) → n .fa ≡ allocAfter v (m .fa) → n .phase .phase ≡ phaseAfter v (m .phase .phase) → Keeps m n
+    go MarkOrField.mark a b d = record { pending = k .others 0 ne; fm = a; fa = b; phase = d }
+    go MarkOrField.field a b d = record { pending = k .others 0 ne; fm = a; fa = b; phase = d }
 
-stored-keeps : {c : Choice} {p : ℕ} {q : Process} {m n : Memory} → (0 ≡ p → ⊥) → Shaped m → ((e : Entry) → List·Memᴰ e (pendingFor m p) → MarkOrField (e .store)) → Stored c p q m n → Keeps m n
-stored-keeps ne z f Stored.same = record { pending = refl; fm = refl; fa = refl; phase = refl }
-stored-keeps {p = p} ne z f (Stored.writes k w e) = let g = write-taken p _ z e in alike-keeps (g .others 0 ne) (g .alike)
-stored-keeps {p = p} ne z f (Stored.locks k i j e) = let g = lock-taken p e .after in alike-keeps (g .pending 0) (g .alike)
-stored-keeps {p = p} ne z f (Stored.unlocks k i j e) = let g = unlock-taken p z e .after in alike-keeps (g .pending 0) (g .alike)
-stored-keeps {c} {p} {m = m} ne z f (Stored.allocates k a o e) = quiet-keeps (allocates-quiet m p (c .x) e)
-stored-keeps {p = p} {q} {m} ne z f (Stored.frees k a e) = quiet-keeps (frees-quiet m p (q .x) e)
-stored-keeps {p = p} ne z f (Stored.commits k e) =
-    let g = commit-taken p z e in
-    oldest-keeps (f (g .oldest) (rw (g .before) (List·Memᴰ·head refl))) (g .others 0 ne) (g .alike)
+outer-keeps : {p : ℕ} {m n : Memory} → (0 ≡ p → ⊥) → Shaped m → Outer p m n → Keeps m n
+outer-keeps ne z (Outer.quiet k) = quiet-keeps k
+outer-keeps {p} ne z (Outer.writes {v} k i e) = let g = write-taken p (entryFor v) z e in alike-keeps (g .others 0 ne) (g .alike)
+
+goes-keeps : {p : ℕ} {q o : Process} {m n : Memory} → (0 ≡ p → ⊥) → sound.WellFormed m → MarksAndFields (pendingFor m p) → Goes p q m o n → Keeps m n
+goes-keeps {p} ne w f (Goes.locks a b e) = let g = lock-taken p e .after in alike-keeps (g .pending 0) (g .alike)
+goes-keeps ne w f (Goes.looks a u b) = record { pending = refl; fm = refl; fa = refl; phase = refl }
+goes-keeps {p} {m = m} ne w f (Goes.writes a u b v r d e) = let g = write-taken p _ (shaped m w) e in alike-keeps (g .others 0 ne) (g .alike)
+goes-keeps {p} {m = m} ne w f (Goes.unlocks a b e) = let g = unlock-taken p (shaped m w) e .after in alike-keeps (g .pending 0) (g .alike)
+goes-keeps {m = m} ne w f (Goes.outside a b e) = outer-keeps ne (shaped m w) e
+goes-keeps {p} {m = m} ne w f (Goes.commits e) = oldest-keeps p ne w f (commit-taken p (shaped m w) e)
 
 beside-known : {c : Choice} {q o u : Process} (m : Memory) → Beside c q 0 o u → Known o m → Known u m
 beside-known m Beside.same v = v
@@ -387,10 +341,10 @@ module _ (s : State) (c : Choice) (w : WellFormed s) (f : MutatorStores s) where
   known : {t : State} → Known (processOf s 0) (s .memory) → Row s c t → Dec (0 ≡ c .process) → Known (processOf t 0) (t .memory)
   known {t} v r (no ne) =
       beside-known (t .memory) (row-others w r 0 ne)
-      (keep (stored-keeps ne (shaped (s .memory) (w .memory)) (rw (pending-is (s .memory) (c .process)) (f (c .process) (omega arith))) (row-memory r)) v)
+      (keep (goes-keeps ne (w .memory) (rw (pending-is (s .memory) (c .process)) (f (c .process) (omega arith))) (row-goes w r)) v)
   known v (Row.collector k e r) (yes i) = arrives (row-kept s c w (Row.collector k e r)) (collector-known s c w r v)
   known v (Row.mutator k e pos mine r) (yes i) = absurd (omega arith)
-  known v (Row.commits k e mine b {m = n} h) (yes i) = commit-known (processOf s 0) (shaped (s .memory) (w .memory)) (named (λ x. commitOf (s .memory) x ≡ taken n) (i ∙ e) h) v
+  known v (Row.commits k e mine b {m = n} h) (yes i) = commit-known (processOf s 0) (w .memory) (named (λ x. commitOf (s .memory) x ≡ taken n) (i ∙ e) h) v
 
   pub step-written : {t : State} → Written s → Row s c t → Written t
   step-written {t} v r = rw (← pending-is (t .memory) 0) (known (rw (pending-is (s .memory) 0) v) r (ℕ-discrete 0 (c .process)))

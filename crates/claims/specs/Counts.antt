@@ -42,8 +42,11 @@ timesOf such s [] = 0
 timesOf such s (c ∷ cs) = onceOf such s c + timesOf such (stepOf s c .state) cs
 
 -- the rounds that a mutator is behind: none in step, else one
+abbrev pub behindBy : Bool → ℕ
+behindBy inStep = pick inStep 0 1
+
 abbrev pub roundsBehind : Process → ℕ
-roundsBehind q = pick (q .part .in_step) 0 1
+roundsBehind q = behindBy (q .part .in_step)
 
 -- demand 3: "at most one round behind": the types set are the answers that m has finished, and one more exactly while m is not in step
 abbrev pub RunBehind : Type 0

@@ -10,4 +10,7 @@ pub mod Handshakes
 pub mod Counts
 pub mod Written
 pub mod Noted
+pub mod Inv
 pub mod Demand
+pub mod Logs
+pub mod Marked

@@ -34,6 +34,10 @@ abbrev pub marksIn : List Entry → ℕ
 marksIn [] = 0
 marksIn (e ∷ es) = pick (isMark (e .store)) (suc (marksIn es)) (marksIn es)
 
+-- ".. one at most"
+abbrev pub OneAtMost : List Entry → Type 0
+OneAtMost l = marksIn l ≤ 1
+
 -- the process is at the unlock of a mark
 unfoldable pub unlockAt : ℕ → ℕ → Bool
 unlockAt place stage = markPlace place && eqb stage unlockStage
@@ -44,12 +48,12 @@ Unlocking q = unlockAt (q .place) (q .stage) ≡ true
 -- of every process, the collector too: a mark waits only at its unlock, and it is the only one in its buffer
 pub record MarksWait (s : State) : Type 0 where
   pub waits : (p : ℕ) → 0 < marksIn (waitingOf s p) → Unlocking (processOf s p)
-  pub one : (p : ℕ) → marksIn (waitingOf s p) ≤ 1
+  pub one : (p : ℕ) → OneAtMost (waitingOf s p)
 
 -- "a mark waits in a buffer only under that lock, one at most": of all buffers together
 pub record MarksLocked (s : State) : Type 0 where
   pub locked : (p : ℕ) → 0 < marksIn (waitingOf s p) → s .memory .lock ≡ p + 1
-  pub one : (p : ℕ) → marksIn (waitingOf s p) ≤ 1
+  pub one : (p : ℕ) → OneAtMost (waitingOf s p)
   pub alone : (p r : ℕ) → 0 < marksIn (waitingOf s p) → 0 < marksIn (waitingOf s r) → p ≡ r
 
 -- every pending store of a mutator is a mark or a field: no sense and no phase
@@ -57,12 +61,12 @@ pub data MarkOrField : Store → Type 0 where
   mark : {c : ℕ} {b : Bool} → MarkOrField (store.Mark c b)
   field : {c f v : ℕ} → MarkOrField (store.Field c f v)
 
+abbrev pub MarksAndFields : List Entry → Type 0
+MarksAndFields l = (e : Entry) → List·Memᴰ e l → MarkOrField (e .store)
+
 abbrev pub MutatorStores : State → Type 0
-MutatorStores s = (p : ℕ) → 0 < p → (e : Entry) → List·Memᴰ e (waitingOf s p) → MarkOrField (e .store)
+MutatorStores s = (p : ℕ) → 0 < p → MarksAndFields (waitingOf s p)
 
 -- after any choices
 abbrev pub RunMarks : Type 0
 RunMarks = Always MarksLocked
-
-abbrev pub RunMutatorStores : Type 0
-RunMutatorStores = Always MutatorStores

@@ -15,7 +15,6 @@ use Rattle.state.specs.Codes.{row2Read, row2Write, row4Write, row5Phase, row5Al
 use Rattle.state.specs.States.{processOf}
 use Rattle.fits.specs.Fits.{amongOf, roundPlaces}
 use Rattle.rows.specs.Offers.{markPlace}
-use Rattle.claims.specs.Runs.{Always}
 use Rattle.claims.specs.Pending.{waitingOf}
 
 -- the stretches of the collector's table between its writes
@@ -97,7 +96,3 @@ abbrev pub Written : State → Type 0
 Written s =
     Wrote (processOf s 0 .sense) (stretchOf (processOf s 0 .place)) (momentOf (processOf s 0 .place) (processOf s 0 .stage)) (waitingOf s 0) (s .memory .fm) (s .memory .fa)
     (s .memory .phase .phase)
-
--- after any choices
-abbrev pub RunWritten : Type 0
-RunWritten = Always Written

@@ -27,7 +27,7 @@ use Rattle.rows.specs.Offers.{Bare}
 use Rattle.rows.specs.Rows.{Row}
 use Rattle.rows.specs.Rows as row
 use Rattle.rows.specs.Reasons as reason
-use Rattle.rows.specs.Reasons.{waiting, Blocked, OnFree, NotOffered, Held, Waits, OfFree, Reason}
+use Rattle.rows.specs.Reasons.{waiting, Blocked, OnFree, NotOffered, Hindered, Waits, OfFree, Reason}
 use Rattle.rows.specs.Views.{OwnFirst, OwnClear, View, stops, goes}
 use Rattle.rows.proofs.Picking.{pick-ind, pick-no}
 use Rattle.rows.proofs.Numbers.{is-blocked, un-blocked}
@@ -63,7 +63,7 @@ module _ (s : State) (c : Choice) (kind : c .kind ≡ 1) where
   offered b (reason.own e n) = no-own e
   offered b (reason.commit e n) = absurd (n b)
 
-  blocked : {k : ℕ} → k ≡ byBlocked → Held s c → Cause k
+  blocked : {k : ℕ} → k ≡ byBlocked → Hindered s c → Cause k
   blocked h (reason.reading o b) = no-own (o .0)
   blocked h (reason.sweeping o b) = no-own (o .0)
   blocked h (reason.allocating o b) = no-own (o .0)

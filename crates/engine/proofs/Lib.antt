@@ -1,4 +1,5 @@
 pub mod Located
 pub mod CommitView
 pub mod Theorems
+pub mod Runs
 pub mod Compute

@@ -1,9 +1,12 @@
 -- Demands 1 and 2: the statements of specs/Statements.antt, proved. Assumes nothing.
---     refused      the number is that of the first reason that holds, and the state is the one that came
---     answered     every answer is a taken step or such a refusal
---     exact        taken to t exactly if a row leads to t
---     kept         a step from a well-formed state is well formed
---     one-step     only one answer
+--     refused               the number is that of the first reason that holds, and the state is the one that came
+--     answered              every answer is a taken step or such a refusal
+--     malformed-exactly     refusal 1 exactly if the state is malformed
+--     numbered              no number is above the last of the table
+--     exact                 taken to t exactly if a row leads to t
+--     kept                  a step from a well-formed state is well formed
+--     inner-formed          check 1 finds nothing in a well-formed state
+--     one-step              only one answer
 use mathlib.Core.Path.{_≡_, refl, sym, ap, _∙_, subst}
 use mathlib.Core.Bool.{false≢true}
 use mathlib.Core.Logic.{_⊎_, inl, inr, ⊎-elim}
@@ -38,7 +41,7 @@ use Rattle.rows.proofs.CollectorView.{collector-view}
 use Rattle.rows.proofs.CollectorRows.{collector-complete}
 use Rattle.kept.proofs.Kept.{row-kept}
 use Rattle.engine.specs.Steps.{commitStep, ownStep, innerOf, stepOf}
-use Rattle.engine.specs.Statements.{First, Refused, Answered, Exact, Kept, One}
+use Rattle.engine.specs.Statements.{First, lastNo, Refused, Answered, Numbered, MalformedExactly, Exact, Kept, InnerFormed, One}
 use Rattle.engine.proofs.Located.{buffered, collecting, mutating}
 use Rattle.engine.proofs.CommitView.{commit-view, commit-row}
 
@@ -47,19 +50,23 @@ data Whole (s : State) (c : Choice) : Answer → Type 0 where
   stops : (n : ℕ) → 0 < n → First s c n → Whole s c (refusedOf n s)
   goes : {t : State} → WellFormed s → ((k : ℕ) → Reason s c k → ⊥) → Row s c t → Whole s c (takenOf t)
 
--- a reason has its number: none is below 1
-some : (s : State) (c : Choice) (k : ℕ) → Reason s c k → 0 < k
-some s c k (reason.malformed e n) = omega arith
-some s c k (reason.noProcess e n) = omega arith
-some s c k (reason.noKind e n o) = omega arith
-some s c k (reason.notOffered e n) = omega arith
-some s c k (reason.nonePending e o w) = omega arith
-some s c k (reason.flagDown e f) = omega arith
-some s c k (reason.blocked e h) = omega arith
-some s c k (reason.pending e w) = omega arith
-some s c k (reason.full e o w) = omega arith
-some s c k (reason.occupied e o w) = omega arith
-some s c k (reason.free e o) = omega arith
+-- a reason has its number, which is one of the table's
+record Number (k : ℕ) : Type 0 where
+  some : 0 < k
+  most : k ≤ lastNo
+
+number : (s : State) (c : Choice) (k : ℕ) → Reason s c k → Number k
+number s c k (reason.malformed e n) = record { some = omega arith; most = omega arith }
+number s c k (reason.noProcess e n) = record { some = omega arith; most = omega arith }
+number s c k (reason.noKind e n o) = record { some = omega arith; most = omega arith }
+number s c k (reason.notOffered e n) = record { some = omega arith; most = omega arith }
+number s c k (reason.nonePending e o w) = record { some = omega arith; most = omega arith }
+number s c k (reason.flagDown e f) = record { some = omega arith; most = omega arith }
+number s c k (reason.blocked e h) = record { some = omega arith; most = omega arith }
+number s c k (reason.pending e w) = record { some = omega arith; most = omega arith }
+number s c k (reason.full e o w) = record { some = omega arith; most = omega arith }
+number s c k (reason.occupied e o w) = record { some = omega arith; most = omega arith }
+number s c k (reason.free e o) = record { some = omega arith; most = omega arith }
 
 -- the reasons before 4, which speak of the whole choice: none below b holds where their checks are past
 module _ (s : State) (c : Choice) (w : WellFormed s) where
@@ -118,12 +125,15 @@ inner-whole s c w =
     (λ k. whole-of s c w h (inr k) (Row s c) (λ t r. r) (commit-view s c k (buffered s c w h .shaped) h))
     (λ o. stops code.noSuchKind (omega arith) (record { holds = reason.noKind refl n o; none-before = early s c w code.noSuchKind (omega arith) (λ i. h) (λ i. absurd (omega arith)) }))))
 
+first-malformed : (s : State) (c : Choice) → (WellFormed s → ⊥) → First s c code.malformed
+first-malformed s c n = record { holds = reason.malformed refl n; none-before = λ k l g. let z = number s c k g .some in omega arith }
+
 whole : (s : State) (c : Choice) → Whole s c (stepOf s c)
 unfolding stepOf
 whole s c =
     pick-ind (Whole s c) (wellFormedOf s)
     (λ t. inner-whole s c (well-formed s .0 t))
-    (λ t. stops code.malformed (omega arith) (record { holds = reason.malformed refl (λ w. false≢true (sym t ∙ well-formed s .1 w)); none-before = λ k l g. let z = some s c k g in omega arith }))
+    (λ t. stops code.malformed (omega arith) (first-malformed s c (λ w. false≢true (sym t ∙ well-formed s .1 w))))
 
 -- ---- demand 1
 -- two first reasons are one
@@ -155,6 +165,20 @@ either (goes w q r) = inl refl
 
 pub answered : Answered
 answered s c = either (whole s c)
+
+within : {s : State} {c : Choice} {a : Answer} → Whole s c a → a .no ≤ lastNo
+within {s} {c} (stops n p f) = number s c n (f .holds) .most
+within (goes w q r) = omega arith
+
+pub numbered : Numbered
+numbered s c = within (whole s c)
+
+not-first : {s : State} {c : Choice} {a : Answer} → WellFormed s → Whole s c a → a .no ≡ code.malformed → ⊥
+not-first {s} {c} w (stops n p f) e = early s c w code.notThere (omega arith) (λ i. absurd (omega arith)) (λ i. absurd (omega arith)) n (omega arith) (f .holds)
+not-first w (goes v q r) e = omega arith
+
+pub malformed-exactly : MalformedExactly
+malformed-exactly s c = (λ e w. not-first w (whole s c) e, λ n. ap (λ (a : Answer). a .no) (of-first (whole s c) (first-malformed s c n)))
 
 -- ---- demand 2
 to-row : {s t : State} {c : Choice} {a : Answer} → Whole s c a → a ≡ takenOf t → WellFormed s × Row s c t
@@ -194,9 +218,13 @@ of-row s c w (row.commits k {p} e h b {m} a) =
     let i = w .memory .some-processes in
     inner-commit s c (omega arith) k ∙ commit-row s c b (subst (λ (j : ℕ). commitOf (s .memory) j ≡ taken m) (sym e) a)
 
-pub exact : Exact
+-- ---- check 1 finds nothing in a well-formed state
+pub inner-formed : InnerFormed
 unfolding stepOf
-exact s c t = (λ e. to-row (whole s c) e, λ h. rw (well-formed s .1 (h .0)) (of-row s c (h .0) (h .1)))
+inner-formed s c w = rw (well-formed s .1 w) refl
+
+pub exact : Exact
+exact s c t = (λ e. to-row (whole s c) e, λ h. inner-formed s c (h .0) ∙ of-row s c (h .0) (h .1))
 
 -- ---- a step keeps the state well formed
 keeps : {s : State} {c : Choice} {a : Answer} → WellFormed s → Whole s c a → WellFormed (a .state)

@@ -220,7 +220,7 @@ pub record HeapFits (h : Heap) : Type 0 where
   pub cells : IsCell maxCells (h .cells)
   pub some : 1 < h .processes
   pub most : h .processes ≤ maxProcesses
-  -- "no bit at or above N"
+  -- "Cells 1..N": the occupied ones are among them
   pub used : belowOf (h .used) (h .cells) ≡ true
   -- "a free cell's fields are 0"
   pub free : (c f : ℕ) → memberOf (h .used) c ≡ false → heapField h c f ≡ 0

@@ -14,7 +14,7 @@ use lib.ListN.{length, getD, take}
 use lib.Seq.{getD-take}
 use borrow.Author.Tests.{leb-true, eqb-true, le-leb, eq-eqb, ne-eqb}
 use Rattle.base.specs.Pick.{pick}
-use Rattle.base.specs.Every.{_and_, every}
+use Rattle.base.specs.Every.{_and_}
 use Rattle.base.proofs.Everies.{and-both, every-at, every-all}
 use Rattle.cells.specs.Sets.{isNone, memberOf, Member, Sub, minusOf, belowOf}
 use Rattle.cells.proofs.Bools.{not-both}

@@ -152,16 +152,19 @@ module _ (log : List ℕ) (a : Admitted log) where
   unfolding readHeap
   sound =
       record {
-        cells = (a .some-cells, a .few-cells);
-        some = omega (arith, a .some-mutators);
-        most = omega (arith, a .few-mutators);
-        used = used-below log N;
-        free = λ c f m. free-field c (eqb f 0) m;
-        named = λ c f m. names-field c (eqb f 0);
-        roots = λ p s l. rw (roots-read (p - 1)) (roots-sub (p - 1) (decLt (p - 1) M));
+        fits =
+            record {
+              cells = (a .some-cells, a .few-cells);
+              some = omega (arith, a .some-mutators);
+              most = omega (arith, a .few-mutators);
+              used = used-below log N;
+              free = λ c f m. free-field c (eqb f 0) m;
+              named = λ c f m. names-field c (eqb f 0);
+              roots = λ p s l. rw (roots-read (p - 1)) (roots-sub (p - 1) (decLt (p - 1) M));
+              sized0 = sized 0;
+              sized1 = sized 1;
+            };
         no-roots = λ p l. roots-read (p - 1) ∙ roots-out (p - 1) (omega arith);
-        sized0 = sized 0;
-        sized1 = sized 1;
         sized-roots = sized-roots;
       }
 

@@ -1,16 +1,15 @@
 -- The header of a log as facts, clause by clause in document 01's words: which logs are opened, and what is known of the heap of one that is. Assumes nothing.
 use mathlib.Core.Path.{_≡_}
-use mathlib.Core.Bool.{true, false}
+use mathlib.Core.Bool.{false}
 use mathlib.Core.List.{List, [], _∷_}
 use mathlib.Core.Logic.{_⊎_}
 use Prim.Native.Nat.{ℕ, _+_, _-_, _≤_, _<_}
-use lib.Dec.{eqb}
 use lib.ListN.{length, take}
-use Rattle.base.specs.Pick.{pick}
-use Rattle.cells.specs.Sets.{noCells, memberOf, Member, Sub, belowOf}
-use Rattle.memory.specs.Memories.{maxCells, maxMutators, maxProcesses, atCell}
+use Rattle.cells.specs.Sets.{noCells, memberOf, Member}
+use Rattle.memory.specs.Memories.{maxCells, maxMutators}
 use Rattle.state.specs.declared.opening.Heap.{Heap}
 use Rattle.state.specs.Openings.{rootsAt}
+use Rattle.fits.specs.Fits.{HeapFits}
 use Rattle.header.specs.Bytes.{pairAt}
 use Rattle.header.specs.Header.{maxLog, letterM, letterG, letterT, versionPlace, theVersion, cellsSaid, mutatorsSaid, cellFields, sizeOf, occupiedAt, fieldAt, rootsRead}
 
@@ -61,26 +60,8 @@ pub record Admitted (log : List ℕ) : Type 0 where
   -- "no bit at or above N": bit i is for cell i + 1
   pub within : (k i : ℕ) → k < mutatorsSaid log → cellsSaid log ≤ i → memberOf (rootSet log k) (i + 1) ≡ false
 
--- ---- what an opening needs of its heap
--- field f of cell c: field 0 is field 0, and any other number is field 1
-abbrev pub heapField : Heap → ℕ → ℕ → ℕ
-heapField h c f = pick (eqb f 0) (atCell (h .field0) c 0) (atCell (h .field1) c 0)
-
+-- ---- what an opening needs of its heap: the header's rules, no roots above M, and the length of the array of roots
 pub record Sound (h : Heap) : Type 0 where
-  -- "N from 1 to 32"; "M from 1 to 4", and the collector
-  pub cells : (0 < h .cells) × (h .cells ≤ maxCells)
-  pub some : 1 < h .processes
-  pub most : h .processes ≤ maxProcesses
-  -- "no bit at or above N"
-  pub used : belowOf (h .used) (h .cells) ≡ true
-  -- "a free cell's fields are 0"
-  pub free : (c f : ℕ) → memberOf (h .used) c ≡ false → heapField h c f ≡ 0
-  -- "A field of an occupied cell is 0 or names an occupied cell"
-  pub named : (c f : ℕ) → Member (h .used) c → (heapField h c f ≡ 0) ⊎ Member (h .used) (heapField h c f)
-  -- "roots name occupied cells": those of mutator p; one above M has none
-  pub roots : (p : ℕ) → 0 < p → p < h .processes → Sub (rootsAt h (p - 1)) (h .used)
+  pub fits : HeapFits h
   pub no-roots : (p : ℕ) → h .processes ≤ p → rootsAt h (p - 1) ≡ noCells
-  -- the arrays have their lengths
-  pub sized0 : length (h .field0) ≡ maxCells
-  pub sized1 : length (h .field1) ≡ maxCells
   pub sized-roots : length (h .roots) ≡ maxMutators

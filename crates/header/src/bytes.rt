@@ -2,6 +2,13 @@
 ghost use mathlib.Core.Path.{_≡_};
 ghost use Rattle.header.specs.Bytes.{byteAt, pairAt, wordAt};
 
+// How much more a byte counts than the one before it.
+struct Weight;
+
+impl Weight {
+    const PER_BYTE: u16 = 256;
+}
+
 // The byte at a place, and 0 past the end of the log.
 pub fn byte(log: &[u8], at: usize) -> u8
     ensures { λ r. ⌜ r ≡ byteAt (now (log .entry)) at ⌝ }
@@ -21,7 +28,7 @@ pub fn pair(log: &[u8], at: usize) -> u16
     }
     let low = byte(log, at);
     let high = byte(log, at + 1);
-    (low as u16) + 256 * (high as u16)
+    (low as u16) + Weight::PER_BYTE * (high as u16)
 }
 
 // 32 bits.
@@ -33,5 +40,6 @@ pub fn word(log: &[u8], at: u32) -> u64
     let b = byte(log, i + 1);
     let c = byte(log, i + 2);
     let d = byte(log, i + 3);
-    (a as u64) + 256 * ((b as u64) + 256 * ((c as u64) + 256 * (d as u64)))
+    let per = Weight::PER_BYTE as u64;
+    (a as u64) + per * ((b as u64) + per * ((c as u64) + per * (d as u64)))
 }

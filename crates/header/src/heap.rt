@@ -103,7 +103,7 @@ fn roots_in(log: &[u8], n: u8, m: u8, k: u8) -> u64
 }
 
 // The roots of all mutators.
-fn roots(log: &[u8], n: u8, m: u8) -> [u64; 4]
+fn roots(log: &[u8], n: u8, m: u8) -> [u64; Layout::ROOT_SETS]
     ensures { λ r. ⌜ r ≡ rootsOf (now (log .entry)) n m ⌝ }
 {
     let a = roots_in(log, n, m, 0);

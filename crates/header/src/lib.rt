@@ -43,6 +43,9 @@ impl Layout {
     pub const MAX_CELLS: u8 = 32;
 
     pub const MAX_MUTATORS: u8 = 4;
+
+    // a root set for each mutator that there may be
+    pub const ROOT_SETS: usize = 4;
 }
 
 // "stop 12"
@@ -50,7 +53,7 @@ fn closed() -> Opened
     ensures { λ r. ⌜ r ≡ unopened ⌝ }
 {
     let none = [0; Memory::CELLS];
-    let roots = [0; 4];
+    let roots = [0; Layout::ROOT_SETS];
     let heap = Heap {
         cells: 0,
         processes: 0,

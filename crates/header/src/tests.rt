@@ -7,7 +7,7 @@ use super::heap;
 ghost use mathlib.Core.Path.{_≡_};
 ghost use Rattle.header.specs.Header.{lettersOf, countsOf, namesOf, cellFitsOf, cellAtOf, rootsFitOf, cellsFitOf, allRootsFitOf, heapFitsOf, admittedOf};
 
-// "Bytes 4D 47 54, a 16-bit version 1"
+// "Bytes 4D 47 54 ("MGT"), a 16-bit version 1"
 fn letters(log: &[u8]) -> bool
     ensures { λ r. ⌜ r ≡ lettersOf (now (log .entry)) ⌝ }
 {

@@ -1,4 +1,4 @@
--- "Marking a cell r. Null: nothing. Otherwise: look at r's mark; read fM, stop if equal; read phase, stop if Idle; lock; look again; if the two looks agree, write mark :=
+-- "Marking a cell r": "Null: nothing. Otherwise: look at r's mark; read fM, stop if equal; read phase, stop if Idle; lock; look again; if the two looks agree, write mark :=
 -- noted fM (r is now being greyed); unlock. .. Each of these seven is one step." For process p, which is q now, over memory m. Assumes nothing.
 use mathlib.Core.Bool.{Bool, true, false}
 use Prim.Native.Nat.{ℕ}

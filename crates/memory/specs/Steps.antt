@@ -39,7 +39,7 @@ unfoldable pub unlockOf : Memory → ℕ → Done
 unlockOf m p = pick (eqb (pendingLenOf m p) 0) (taken (withLock m 0)) (refused byPending m)
 
 -- "Allocation and freeing act on memory at once, unblocked." Null is no cell: allocating or freeing it is taken and changes nothing.
--- A number above `maxCells` changes no array. Freeing a free cell is taken.
+-- A number above `maxCells` changes no array, only the set of occupied cells. Freeing a free cell is taken.
 unfoldable pub allocateOf : Memory → ℕ → ℕ → Done
 allocateOf m p c =
     pick (blockedOf m p) (refused byBlocked m)

@@ -1,4 +1,4 @@
-// "A round is: fence; set type; raise each flag once; poll, until none is awaited": written once, used by the collector's six rounds.
+// "A round is: fence; set type ..; raise each flag once, x naming the mutator; poll, x naming one still awaited, until none is": written once, used by the collector's six rounds.
 use state::Answer;
 use state::Choice;
 use state::Hands;

@@ -28,7 +28,7 @@ use Rattle.state.specs.States.{refusedOf}
 use Rattle.rows.specs.Offers.{Among, offerOf}
 use Rattle.rows.specs.Deeds.{Deed, reads, sweeps, writes, fences, locks, unlocks, allocates, frees, apart, deedOf}
 use Rattle.rows.specs.Reasons as reason
-use Rattle.rows.specs.Reasons.{mover, waiting, Blocked, OnFree, FlagDown, NotOffered, Held, Waits, OfFree, Reason}
+use Rattle.rows.specs.Reasons.{mover, waiting, Blocked, OnFree, FlagDown, NotOffered, Hindered, Waits, OfFree, Reason}
 use Rattle.rows.specs.Views.{OwnFirst, OwnClear, View, stops}
 use Rattle.rows.proofs.Picking.{pick-no}
 use Rattle.rows.proofs.Numbers as number
@@ -68,7 +68,7 @@ module _ (s : State) (c : Choice) where
   by : {d : Deed} (k : ℕ) → deedOf c (mover s c) ≡ d → Cause s c k d → Cause s c k (deedOf c (mover s c))
   by k e h = subst (Cause s c k) (sym e) h
 
-  by-held : (k : ℕ) → c .kind ≡ 0 → k ≡ byBlocked → Held s c → Cause s c k (deedOf c (mover s c))
+  by-held : (k : ℕ) → c .kind ≡ 0 → k ≡ byBlocked → Hindered s c → Cause s c k (deedOf c (mover s c))
   by-held k e n (reason.reading o b) = by k (o .1) (inl (n, b))
   by-held k e n (reason.sweeping o b) = by k (o .1) (n, b)
   by-held k e n (reason.allocating o b) = by k (o .1) (inl (n, b))

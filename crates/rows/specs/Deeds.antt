@@ -24,7 +24,7 @@ pub data Deed : Type 0 where
   unlocks : Deed
   allocates : ℕ → Deed
   frees : ℕ → Deed
-  -- "Handshake and list steps": nothing
+  -- nothing: "Handshake and list steps", an answer's read of the type, a root dropped
   apart : Deed
 
 -- the cell being marked: the old value, y, a root or a field's value; a root is named by x at its first look

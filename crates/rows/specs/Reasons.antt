@@ -1,5 +1,5 @@
 -- "When the judge says no": the eleven reasons, each as a predicate of state and choice, in document 01's words. Checks run in number order: the number given is that of the
--- first reason that holds (`Refused` of Statements.antt). Assumes nothing.
+-- first reason that holds (`Refused` of crate `engine`). Assumes nothing.
 use mathlib.Core.Path.{_≡_}
 use mathlib.Core.Bool.{Bool, true, false}
 use mathlib.Core.List.{List, [], _∷_}
@@ -62,13 +62,13 @@ pub record FlagDown (s : State) (c : Choice) : Type 0 where
   pub flag : mover s c .part .raised ≡ false
 
 -- 7: "a memory or own-buffer read, commit, allocation or free while blocked; a lock step while any process holds the lock"
-pub data Held (s : State) (c : Choice) : Type 0 where
-  reading : {at : Spot} → Own s c (reads at) → Blocked (s .memory) (c .process) → Held s c
-  sweeping : {x : ℕ} → Own s c (sweeps x) → Blocked (s .memory) (c .process) → Held s c
-  allocating : {x : ℕ} → Own s c (allocates x) → Blocked (s .memory) (c .process) → Held s c
-  freeing : {x : ℕ} → Own s c (frees x) → Blocked (s .memory) (c .process) → Held s c
-  committing : Commit c → Blocked (s .memory) (c .process) → Held s c
-  locking : Own s c locks → (s .memory .lock ≡ 0 → ⊥) → Held s c
+pub data Hindered (s : State) (c : Choice) : Type 0 where
+  reading : {at : Spot} → Own s c (reads at) → Blocked (s .memory) (c .process) → Hindered s c
+  sweeping : {x : ℕ} → Own s c (sweeps x) → Blocked (s .memory) (c .process) → Hindered s c
+  allocating : {x : ℕ} → Own s c (allocates x) → Blocked (s .memory) (c .process) → Hindered s c
+  freeing : {x : ℕ} → Own s c (frees x) → Blocked (s .memory) (c .process) → Hindered s c
+  committing : Commit c → Blocked (s .memory) (c .process) → Hindered s c
+  locking : Own s c locks → (s .memory .lock ≡ 0 → ⊥) → Hindered s c
 
 -- 8: "fence or unlock, own buffer not empty"
 pub data Waits (s : State) (c : Choice) : Type 0 where
@@ -92,7 +92,7 @@ pub data Reason (s : State) (c : Choice) (n : ℕ) : Type 0 where
   -- 5: "a commit with an empty buffer"
   nonePending : n ≡ 5 → Commit c → waiting s c ≡ [] → Reason s c n
   flagDown : n ≡ 6 → FlagDown s c → Reason s c n
-  blocked : n ≡ 7 → Held s c → Reason s c n
+  blocked : n ≡ 7 → Hindered s c → Reason s c n
   pending : n ≡ 8 → Waits s c → Reason s c n
   -- 9: "a write, 8 stores pending"
   full : n ≡ 9 → {v : Store} → Own s c (writes v) → maxStores ≤ length (waiting s c) → Reason s c n

@@ -1,11 +1,10 @@
 -- The judge and the log's rule, which agree. Assumes nothing.
---     each-its-own               the run is a fold, record by record
 --     run-keeps                  what every step keeps, every state of a run has
 --     taken-run, stops-run       a run of the rule is the run that is computed
 --     first-at                   and the run that is computed is one of the rule, record by record
 --     judge-admitted, judge-refused    the judge of a log that is admitted, and of one that is not
 --     outcome-exactly            both, with the verdict
-use mathlib.Core.Path.{_≡_, refl, sym, ap, ap₂, _∙_}
+use mathlib.Core.Path.{_≡_, refl, sym, ap, ap₂, _∙_, subst}
 use mathlib.Core.Bool.{Bool, true, false}
 use mathlib.Core.List.{List}
 use mathlib.Core.Logic.{_⊎_, inl, inr}
@@ -20,7 +19,10 @@ use Rattle.state.specs.declared.Choice.{Choice}
 use Rattle.state.specs.declared.Answer.{Answer}
 use Rattle.state.specs.Openings.{openingOf}
 use Rattle.state.specs.States.{takenOf}
-use Rattle.engine.specs.Steps.{innerOf}
+use Rattle.fits.specs.Fits.{WellFormed}
+use Rattle.engine.specs.Steps.{stepOf}
+use Rattle.verdict.specs.declared.Finding.{Finding}
+use Rattle.verdict.proofs.Formed.{formed-judged}
 use Rattle.header.specs.Header.{sizeOf, heapOf, admittedOf}
 use Rattle.header.specs.Admitted.{Admitted}
 use Rattle.header.proofs.Agrees.{admitted-clauses, clauses-admitted}
@@ -28,15 +30,13 @@ use Rattle.runlog.specs.declared.Outcome.{Outcome}
 use Rattle.runlog.specs.declared.record.Record.{Record}
 use Rattle.runlog.specs.declared.run.Run.{Run}
 use Rattle.runlog.specs.Records.{checkOf}
-use Rattle.runlog.specs.Runs.{wrongCheck, fewLeft, stoppedOf, tookOf, answeredOf, turnOf, onwardOf, closedOf, wholeOf, leftOf, playedOf, outcomeOf, notOpened, judgeIf, judgeOf}
+use Rattle.runlog.specs.Runs.{wrongCheck, fewLeft, stoppedOf, tookOf, answeredOf, turnedOf, onwardOf, closedOf, wholeOf, leftOf, playedOf, outcomeOf, notOpened, judgeIf, judgeOf}
 use Rattle.runlog.specs.Rule.{recordOf, Whole, RightCheck, Taken, none, more, Stops, ended, short, wrong, refused, RunTo, Judges, shut, runs}
-use Rattle.runlog.specs.Statements.{RunKeeps, OutcomeExactly, NotAdmitted, NumbersOfRun, afterOf, ranOf, EachItsOwn}
+use Rattle.runlog.specs.Statements.{RunKeeps, OutcomeExactly, NotAdmitted, NumbersOfRun, afterOf, ranOf}
 use Rattle.runlog.proofs.Turns.{onward-goes, onward-stays, run-stays}
+use Rattle.runlog.proofs.Formed.{turn-whole, after-formed, ran-formed}
 
-pub each-its-own : EachItsOwn
-each-its-own log k = refl
-
-module _ (P : State → Type 0) (f : (s t : State) (c : Choice) → P s → innerOf s c ≡ takenOf t → P t) (log : List ℕ) (o : P (openingOf (heapOf log))) where
+module _ (P : State → Type 0) (f : (s t : State) (c : Choice) → P s → stepOf s c ≡ takenOf t → P t) (log : List ℕ) (o : P (openingOf (heapOf log))) where
   keeps : {k : ℕ} {s : State} → Taken log k s → P s
   keeps none = o
   keeps (more k s t p w r e) = f s t (recordOf log k .choice) (keeps p) e
@@ -49,13 +49,11 @@ abbrev ran : ℕ → ℕ → State → Run
 ran k n s = record { steps = k; stop = n; state = s }
 
 -- ---- a turn, by what it finds
-turn-wrong : (run : Run) (r : Record) → (RightCheck r → ⊥) → turnOf run r ≡ stoppedOf wrongCheck run
-unfolding turnOf
-turn-wrong run r n = rw (ne-eqb (r .check) (checkOf (r .choice)) n) refl
+turn-wrong : (run : Run) (r : Record) (a : Answer) → (RightCheck r → ⊥) → turnedOf run r a ≡ stoppedOf wrongCheck run
+turn-wrong run r a n = rw (ne-eqb (r .check) (checkOf (r .choice)) n) refl
 
-turn-right : (run : Run) (r : Record) → RightCheck r → turnOf run r ≡ answeredOf run (innerOf (run .state) (r .choice))
-unfolding turnOf
-turn-right run r e = rw (eq-eqb (r .check) (checkOf (r .choice)) e) refl
+turn-right : (run : Run) (r : Record) (a : Answer) → RightCheck r → turnedOf run r a ≡ answeredOf run a
+turn-right run r a e = rw (eq-eqb (r .check) (checkOf (r .choice)) e) refl
 
 answered-taken : (run : Run) (a : Answer) → a .no ≡ 0 → answeredOf run a ≡ tookOf run (a .state)
 answered-taken run a e = rw (eq-eqb (a .no) 0 e) refl
@@ -75,18 +73,25 @@ pub closed-few : (run : Run) (l : ℕ) → run .stop ≡ 0 → (l ≡ 0 → ⊥)
 unfolding closedOf
 closed-few run l e n = rw (eq-eqb (run .stop) 0 e, ne-eqb l 0 n) refl
 
-module _ (log : List ℕ) where
+module _ (log : List ℕ) (adm : Admitted log) where
+  -- what the step of a state answers to the record k + 1
+  abbrev answer : ℕ → State → Answer
+  answer k s = stepOf s (recordOf log k .choice)
+
   -- ---- what the rule says is what is computed
-  next : (k : ℕ) (s : State) → afterOf log k ≡ ran k 0 s → afterOf log (suc k) ≡ turnOf (ran k 0 s) (recordOf log k)
-  next k s e = ap (λ (q : Run). onwardOf q (recordOf log k)) e ∙ onward-goes (ran k 0 s) (recordOf log k) refl
+  next : (k : ℕ) (s : State) → afterOf log k ≡ ran k 0 s → afterOf log (suc k) ≡ turnedOf (ran k 0 s) (recordOf log k) (answer k s)
+  next k s e =
+      ap (λ (q : Run). onwardOf q (recordOf log k)) e
+      ∙ onward-goes (ran k 0 s) (recordOf log k) refl
+      ∙ turn-whole (ran k 0 s) (recordOf log k) (subst (λ (q : Run). WellFormed (q .state)) e (after-formed log k adm))
 
   pub taken-run : {k : ℕ} {s : State} → Taken log k s → afterOf log k ≡ ran k 0 s
   taken-run none = refl
   taken-run (more k s t p w r a) =
-      let n : innerOf s (recordOf log k .choice) .no ≡ 0 = ap (λ (x : Answer). x .no) a in
+      let n : answer k s .no ≡ 0 = ap (λ (x : Answer). x .no) a in
       next k s (taken-run p)
-      ∙ turn-right (ran k 0 s) (recordOf log k) r
-      ∙ answered-taken (ran k 0 s) (innerOf s (recordOf log k .choice)) n
+      ∙ turn-right (ran k 0 s) (recordOf log k) (answer k s) r
+      ∙ answered-taken (ran k 0 s) (answer k s) n
       ∙ ap (λ (x : State). ran (k + 1) 0 x) (ap (λ (x : Answer). x .state) a)
       ∙ ap (λ (x : ℕ). ran x 0 t) (add-one k)
 
@@ -107,10 +112,10 @@ module _ (log : List ℕ) where
   stops-run {k} {n} {s} p (short a b) =
       let w : wholeOf log ≡ k = omega arith in
       ap (λ (q : ℕ). closedOf (afterOf log q) (leftOf log)) w ∙ ap (λ (q : Run). closedOf q (leftOf log)) (taken-run p) ∙ closed-few (ran k 0 s) (leftOf log) refl (λ z. omega arith)
-  stops-run {k} {n} {s} p (wrong w r) = halted k wrongCheck s w (λ z. omega arith) (next k s (taken-run p) ∙ turn-wrong (ran k 0 s) (recordOf log k) r)
+  stops-run {k} {n} {s} p (wrong w r) = halted k wrongCheck s w (λ z. omega arith) (next k s (taken-run p) ∙ turn-wrong (ran k 0 s) (recordOf log k) (answer k s) r)
   stops-run {k} {n} {s} p (refused w r a) =
-      halted k (innerOf s (recordOf log k .choice) .no) s w a
-      (next k s (taken-run p) ∙ turn-right (ran k 0 s) (recordOf log k) r ∙ answered-refused (ran k 0 s) (innerOf s (recordOf log k .choice)) a)
+      halted k (answer k s .no) s w a
+      (next k s (taken-run p) ∙ turn-right (ran k 0 s) (recordOf log k) (answer k s) r ∙ answered-refused (ran k 0 s) (answer k s) a)
 
   -- ---- what is computed is what the rule says: after the first k records
   data At (k : ℕ) (q : Run) : Type 0 where
@@ -124,16 +129,14 @@ module _ (log : List ℕ) where
       w : Whole log k
       w = omega arith
 
-      answered : (s : State) → Taken log k s → RightCheck (recordOf log k) → (a : Answer) → a ≡ innerOf s (recordOf log k .choice) → Dec (a .no ≡ 0) → At (suc k) (answeredOf (ran k 0 s) a)
+      answered : (s : State) → Taken log k s → RightCheck (recordOf log k) → (a : Answer) → a ≡ answer k s → Dec (a .no ≡ 0) → At (suc k) (answeredOf (ran k 0 s) a)
       answered s p r a e (yes z) = rw (answered-taken (ran k 0 s) a z) (going refl (add-one k) (more k s (a .state) p w r (sym e ∙ ap (λ (n : ℕ). record { no = n; state = a .state }) z)))
       answered s p r a e (no n) =
           rw (answered-refused (ran k 0 s) a n) (stopped n p (rw e (refused w r (rw e at n))))
 
-      turned : (s : State) → Taken log k s → Dec (RightCheck (recordOf log k)) → At (suc k) (turnOf (ran k 0 s) (recordOf log k))
-      turned s p (yes r) =
-          let a = innerOf s (recordOf log k .choice) in
-          rw (turn-right (ran k 0 s) (recordOf log k) r) (answered s p r a refl (ℕ-discrete (a .no) 0))
-      turned s p (no r) = rw (turn-wrong (ran k 0 s) (recordOf log k) r) (stopped (λ z. omega arith) p (wrong w r))
+      turned : (s : State) → Taken log k s → Dec (RightCheck (recordOf log k)) → At (suc k) (turnedOf (ran k 0 s) (recordOf log k) (answer k s))
+      turned s p (yes r) = rw (turn-right (ran k 0 s) (recordOf log k) (answer k s) r) (answered s p r (answer k s) refl (ℕ-discrete (answer k s .no) 0))
+      turned s p (no r) = rw (turn-wrong (ran k 0 s) (recordOf log k) (answer k s) r) (stopped (λ z. omega arith) p (wrong w r))
 
       go : (q : Run) → afterOf log k ≡ q → At k q → At (suc k) (afterOf log (suc k))
       go q e (stopped n p t) = rw (e, onward-stays q (recordOf log k) n) (stopped n p t)
@@ -142,16 +145,18 @@ module _ (log : List ℕ) where
           rw (next k (q .state) g) (turned (q .state) p (ℕ-discrete (recordOf log k .check) (checkOf (recordOf log k .choice))))
 
   -- and after the last, with what is left
-  pub run-to : Admitted log → RunTo log (outcomeOf (ranOf log))
+  pub run-to : RunTo log (outcomeOf (ranOf log))
   unfolding playedOf outcomeOf
-  run-to a = go (afterOf log (wholeOf log)) refl (first-at (wholeOf log) (omega arith))
+  run-to = go (afterOf log (wholeOf log)) refl (first-at (wholeOf log) (omega arith))
     where
       made : (q : Run) → ranOf log ≡ q → Taken log (q .steps) (q .state) → Stops log (q .steps) (q .state) (q .stop) → RunTo log (outcomeOf (ranOf log))
-      made q e p t = rw e (record { state = q .state; taken = p; stops = t; verdict = refl })
+      made q e p t =
+          let w = subst (λ (x : Run). WellFormed (x .state)) e (ran-formed log adm) in
+          rw e (record { state = q .state; taken = p; stops = t; verdict = ap (λ (f : Finding). f .verdict) (sym (formed-judged (q .state) w)) })
 
       left : (q : Run) → afterOf log (wholeOf log) ≡ q → q .stop ≡ 0 → q .steps ≡ wholeOf log → Taken log (wholeOf log) (q .state) → Dec (leftOf log ≡ 0) → RunTo log (outcomeOf (ranOf log))
-      left q e z y p (yes l) = made q (ap (λ (x : Run). closedOf x (leftOf log)) e ∙ closed-none q (leftOf log) z l) (rw (← y) at p) (rw (z, y) (ended (omega (arith, a .not-short))))
-      left q e z y p (no l) = made (stoppedOf fewLeft q) (ap (λ (x : Run). closedOf x (leftOf log)) e ∙ closed-few q (leftOf log) z l) (rw (← y) at p) (rw y (short (omega (arith, a .not-short)) (omega (arith, a .not-short))))
+      left q e z y p (yes l) = made q (ap (λ (x : Run). closedOf x (leftOf log)) e ∙ closed-none q (leftOf log) z l) (rw (← y) at p) (rw (z, y) (ended (omega (arith, adm .not-short))))
+      left q e z y p (no l) = made (stoppedOf fewLeft q) (ap (λ (x : Run). closedOf x (leftOf log)) e ∙ closed-few q (leftOf log) z l) (rw (← y) at p) (rw y (short (omega (arith, adm .not-short)) (omega (arith, adm .not-short))))
 
       go : (q : Run) → afterOf log (wholeOf log) ≡ q → At (wholeOf log) q → RunTo log (outcomeOf (ranOf log))
       go q e (stopped n p t) = made q (ap (λ (x : Run). closedOf x (leftOf log)) e ∙ closed-stays q (leftOf log) n) p t
@@ -185,8 +190,10 @@ only log o (shut n u) = out (u .steps) (u .stop) (u .verdict) ∙ sym (judge-ref
     out : {a b c x y z : ℕ} → a ≡ x → b ≡ y → c ≡ z → _≡_ {A = Outcome} (record { steps = a; stop = b; verdict = c }) (record { steps = x; stop = y; verdict = z })
     out p q r = rw (p, q, r) refl
 only log o (runs a r) =
-    ap (λ (v : ℕ). record { steps = o .steps; stop = o .stop; verdict = v }) (r .verdict)
-    ∙ sym (ap outcomeOf (stops-run log (r .taken) (r .stops)))
+    let e = stops-run log a (r .taken) (r .stops) in
+    let w = subst (λ (q : Run). WellFormed (q .state)) e (ran-formed log a) in
+    ap (λ (v : ℕ). record { steps = o .steps; stop = o .stop; verdict = v }) (r .verdict ∙ ap (λ (f : Finding). f .verdict) (formed-judged (r .state) w))
+    ∙ sym (ap outcomeOf e)
     ∙ sym (judge-admitted log a)
 
 pub outcome-exactly : OutcomeExactly

@@ -1,5 +1,6 @@
 pub mod Turns
+pub mod Formed
 pub mod Judges
 pub mod Exacts
 pub mod Cuts
-pub mod Formed
+pub mod Ends

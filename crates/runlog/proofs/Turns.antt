@@ -5,7 +5,7 @@
 --     run-more                       one record more
 --     run-stays                      a run that has stopped stays as it is, however many records follow
 use mathlib.Core.Path.{_≡_, sym, ap, _∙_}
-use mathlib.Core.Bool.{Bool, true, false}
+use mathlib.Core.Bool.{Bool}
 use mathlib.Core.List.{List}
 use Prim.Native.Nat.{ℕ, zero, suc, _+_, _*_, _≤_}
 use native.Mathlib.Numerals.{add-one}
@@ -13,13 +13,13 @@ use native.Mathlib.Decide.{ℕ-discrete}
 use native.Mathlib.Omega.{arith}
 use lib.Dec.{eqb}
 use borrow.Author.Tests.{eq-eqb, ne-eqb}
-use Rattle.base.specs.Pick.{pick}
 use Rattle.state.specs.declared.State.{State}
+use Rattle.rows.proofs.Picking.{picked}
 use Rattle.engine.specs.Steps.{innerOf}
 use Rattle.runlog.specs.declared.record.Record.{Record}
 use Rattle.runlog.specs.declared.run.Run.{Run}
 use Rattle.runlog.specs.Records.{recordSize, recordAt, rightCheckOf}
-use Rattle.runlog.specs.Runs.{wrongCheck, startOf, stoppedOf, tookOf, answeredOf, turnOf, onwardIf, onwardOf, runOf}
+use Rattle.runlog.specs.Runs.{startOf, turnOf, onwardIf, onwardOf, runOf}
 
 pub onward-goes : (run : Run) (r : Record) → run .stop ≡ 0 → onwardOf run r ≡ turnOf run r
 unfolding onwardOf
@@ -29,18 +29,12 @@ pub onward-stays : (run : Run) (r : Record) → (run .stop ≡ 0 → ⊥) → on
 unfolding onwardOf
 onward-stays run r n = ap (λ (b : Bool). onwardIf b run r) (ne-eqb (run .stop) 0 n)
 
-picked : (P : Run → Type 0) (b : Bool) (x y : Run) → P x → P y → P (pick b x y)
-picked P true x y p q = p
-picked P false x y p q = q
-
 pub turn-steps : (run : Run) (r : Record) → turnOf run r .steps ≤ run .steps + 1
 unfolding turnOf
 turn-steps run r =
     let P : Run → Type 0 = λ q. q .steps ≤ run .steps + 1 in
     let a = innerOf (run .state) (r .choice) in
-    picked P (rightCheckOf r) (answeredOf run a) (stoppedOf wrongCheck run)
-    (picked P (eqb (a .no) 0) (tookOf run (a .state)) (stoppedOf (a .no) run) (omega arith) (omega arith))
-    (omega arith)
+    picked P (rightCheckOf r) (picked P (eqb (a .no) 0) (omega arith) (omega arith)) (omega arith)
 
 pub begun : (run : Run) (s : State) → run ≡ startOf s → run ≡ startOf (run .state)
 begun run s e = e ∙ ap startOf (sym (ap (λ (q : Run). q .state) e))

@@ -1,4 +1,5 @@
--- The log's rule as facts: which records are taken, where the run stops and why, and the three numbers. Assumes nothing.
+-- The log's rule as facts, over the whole step and the finding of any state: which records are taken, where the run stops and why, and the three numbers.
+-- Assumes nothing.
 use mathlib.Core.Path.{_≡_}
 use mathlib.Core.List.{List}
 use Prim.Native.Nat.{ℕ, zero, suc, _+_, _*_, _≤_, _<_}
@@ -6,8 +7,9 @@ use lib.ListN.{length}
 use Rattle.state.specs.declared.State.{State}
 use Rattle.state.specs.Openings.{openingOf}
 use Rattle.state.specs.States.{takenOf}
-use Rattle.engine.specs.Steps.{innerOf}
-use Rattle.verdict.specs.Judged.{isMalformed, judgedOf}
+use Rattle.engine.specs.Steps.{stepOf}
+use Rattle.verdict.specs.Judged.{isMalformed}
+use Rattle.verdict.specs.Findings.{findingOf}
 use Rattle.header.specs.Header.{sizeOf, heapOf, notAdmitted}
 use Rattle.header.specs.Admitted.{Admitted}
 use Rattle.runlog.specs.declared.Outcome.{Outcome}
@@ -33,7 +35,7 @@ RightCheck r = r .check ≡ checkOf (r .choice)
 -- The first k records are taken, and lead from the opening to the state: each to its own step's.
 pub data Taken (log : List ℕ) : ℕ → State → Type 0 where
   none : Taken log zero (openingOf (heapOf log))
-  more : (k : ℕ) (s t : State) → Taken log k s → Whole log k → RightCheck (recordOf log k) → innerOf s (recordOf log k .choice) ≡ takenOf t → Taken log (suc k) t
+  more : (k : ℕ) (s t : State) → Taken log k s → Whole log k → RightCheck (recordOf log k) → stepOf s (recordOf log k .choice) ≡ takenOf t → Taken log (suc k) t
 
 -- Why the run stops there.
 pub data Stops (log : List ℕ) (k : ℕ) (s : State) : ℕ → Type 0 where
@@ -44,14 +46,14 @@ pub data Stops (log : List ℕ) (k : ℕ) (s : State) : ℕ → Type 0 where
   -- "(else stop 13)"
   wrong : Whole log k → (RightCheck (recordOf log k) → ⊥) → Stops log k s wrongCheck
   -- "A refused record stops with its number."
-  refused : Whole log k → RightCheck (recordOf log k) → (innerOf s (recordOf log k .choice) .no ≡ 0 → ⊥) → Stops log k s (innerOf s (recordOf log k .choice) .no)
+  refused : Whole log k → RightCheck (recordOf log k) → (stepOf s (recordOf log k .choice) .no ≡ 0 → ⊥) → Stops log k s (stepOf s (recordOf log k .choice) .no)
 
 -- "The count is of the records taken before the stop; the verdict is that of the state then"
 pub record RunTo (log : List ℕ) (o : Outcome) : Type 0 where
   pub state : State
   pub taken : Taken log (o .steps) state
   pub stops : Stops log (o .steps) state (o .stop)
-  pub verdict : o .verdict ≡ judgedOf state .verdict
+  pub verdict : o .verdict ≡ findingOf state .verdict
 
 -- "4 on stop 12"; no record is taken
 pub record Unopened (o : Outcome) : Type 0 where

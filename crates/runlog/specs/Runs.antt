@@ -39,9 +39,12 @@ tookOf run t = record { steps = run .steps + 1; stop = 0; state = t }
 abbrev pub answeredOf : Run → Answer → Run
 answeredOf run a = pick (eqb (a .no) 0) (tookOf run (a .state)) (stoppedOf (a .no) run)
 
--- a record's turn: a wrong check comes before any refusal of that record
+-- a record's turn, by what the step answers to it: a wrong check comes before any refusal of that record
+abbrev pub turnedOf : Run → Record → Answer → Run
+turnedOf run r a = pick (rightCheckOf r) (answeredOf run a) (stoppedOf wrongCheck run)
+
 unfoldable pub turnOf : Run → Record → Run
-turnOf run r = pick (rightCheckOf r) (answeredOf run (innerOf (run .state) (r .choice))) (stoppedOf wrongCheck run)
+turnOf run r = turnedOf run r (innerOf (run .state) (r .choice))
 
 -- a run that has stopped takes no more records
 abbrev pub onwardIf : Bool → Run → Record → Run

@@ -1,21 +1,27 @@
 -- What is proved of the judge of a log, each statement by its name. Assumes nothing.
 use mathlib.Core.Path.{_≡_}
-use mathlib.Core.List.{List, _++_}
+use mathlib.Core.List.{List, [], _∷_, _++_}
 use mathlib.Core.Logic.{_⊎_, _↔_}
-use Prim.Native.Nat.{ℕ, suc, _-_, _/_, _%_, _≤_, _<_}
+use Prim.Native.Nat.{ℕ, zero, suc, _-_, _/_, _%_, _≤_, _<_}
+use lib.Dec.{eqb}
 use lib.ListN.{length, take}
+use Rattle.base.specs.Pick.{pick}
 use Rattle.state.specs.declared.State.{State}
 use Rattle.state.specs.declared.Choice.{Choice}
+use Rattle.state.specs.Codes.{malformed}
 use Rattle.state.specs.Openings.{openingOf}
 use Rattle.state.specs.States.{takenOf}
-use Rattle.fits.specs.Fits.{WellFormed}
-use Rattle.engine.specs.Steps.{innerOf}
-use Rattle.header.specs.Header.{maxLog, sizeOf, heapOf}
+use Rattle.fits.specs.Fits.{HeapFits, WellFormed}
+use Rattle.engine.specs.Steps.{stepOf}
+use Rattle.engine.specs.Runs as engine
+use Rattle.verdict.specs.Judged.{isMalformed, found, Judged}
+use Rattle.verdict.specs.Statements.{Verdicts}
+use Rattle.header.specs.Header.{maxLog, sizeOf, heapOf, notAdmitted}
 use Rattle.header.specs.Admitted.{Admitted}
 use Rattle.runlog.specs.declared.Outcome.{Outcome}
 use Rattle.runlog.specs.declared.run.Run.{Run}
 use Rattle.runlog.specs.Records.{recordSize}
-use Rattle.runlog.specs.Runs.{fewLeft, onwardOf, runOf, closedOf, wholeOf, leftOf, playedOf, outcomeOf, notOpened, judgeOf}
+use Rattle.runlog.specs.Runs.{fewLeft, turnedOf, runOf, closedOf, wholeOf, leftOf, playedOf, outcomeOf, notOpened, judgeOf}
 use Rattle.runlog.specs.Rule.{placeOf, recordOf, Taken, Judges}
 
 -- the outcome is the one of the log's rule, and there is no other
@@ -37,18 +43,66 @@ ranOf log = playedOf log (openingOf (heapOf log))
 abbrev pub NumbersOfRun : Type 0
 NumbersOfRun = (log : List ℕ) → Admitted log → judgeOf log ≡ outcomeOf (ranOf log)
 
--- the run is the fold of the step over the records, prefix by prefix: "each record's state is its own step's"
+-- the run is the fold of the step over the records, prefix by prefix: "each record's state is its own step's". A run that has stopped takes no more records.
 abbrev pub EachItsOwn : Type 0
-EachItsOwn = (log : List ℕ) (k : ℕ) → afterOf log (suc k) ≡ onwardOf (afterOf log k) (recordOf log k)
+EachItsOwn =
+    (log : List ℕ) (k : ℕ) → Admitted log
+    → afterOf log (suc k) ≡ pick (eqb (afterOf log k .stop) 0) (turnedOf (afterOf log k) (recordOf log k) (stepOf (afterOf log k .state) (recordOf log k .choice))) (afterOf log k)
 
--- the opening of an admitted log is well formed
+-- the heap of an admitted log keeps the header's rules, and its opening is well formed
+abbrev pub HeapFitting : Type 0
+HeapFitting = (log : List ℕ) → Admitted log → HeapFits (heapOf log)
+
 abbrev pub OpeningFormed : Type 0
 OpeningFormed = (log : List ℕ) → Admitted log → WellFormed (openingOf (heapOf log))
+
+-- the choices of the first k records
+abbrev pub choicesOf : List ℕ → ℕ → List Choice
+choicesOf log zero = []
+choicesOf log (suc k) = choicesOf log k ++ recordOf log k .choice ∷ []
+
+-- a run's state is the one that the choices of the records taken lead to from the opening, step by step
+abbrev pub Chosen : List ℕ → Run → Type 0
+Chosen log run = run .state ≡ engine.runOf (openingOf (heapOf log)) (choicesOf log (run .steps))
+
+abbrev pub AfterChosen : Type 0
+AfterChosen = (log : List ℕ) (k : ℕ) → Admitted log → Chosen log (afterOf log k)
+
+abbrev pub RanChosen : Type 0
+RanChosen = (log : List ℕ) → Admitted log → Chosen log (ranOf log)
+
+-- so every state of the judge's run is well formed
+abbrev pub AfterFormed : Type 0
+AfterFormed = (log : List ℕ) (k : ℕ) → Admitted log → WellFormed (afterOf log k .state)
+
+abbrev pub RanFormed : Type 0
+RanFormed = (log : List ℕ) → Admitted log → WellFormed (ranOf log .state)
+
+-- so no log stops with 1: "the state is malformed"
+abbrev pub NeverMalformed : Type 0
+NeverMalformed = (log : List ℕ) → judgeOf log .stop ≡ malformed → ⊥
+
+-- "stop 12" exactly for a log that is not admitted, and verdict 4 too: "4 on stop 12"
+abbrev pub StopNotAdmitted : Type 0
+StopNotAdmitted = (log : List ℕ) → (judgeOf log .stop ≡ notAdmitted) ↔ (Admitted log → ⊥)
+
+abbrev pub VerdictNotAdmitted : Type 0
+VerdictNotAdmitted = (log : List ℕ) → (judgeOf log .verdict ≡ isMalformed) ↔ (Admitted log → ⊥)
+
+-- demand 2's verdict of a state, with the number that goes with it
+pub record VerdictOf (s : State) (verdict : ℕ) : Type 0 where
+  pub number : ℕ
+  pub judged : Judged s (found verdict number)
+  pub each : Verdicts s (found verdict number)
+
+-- "the verdict is that of the state then"
+abbrev pub RanJudged : Type 0
+RanJudged = (log : List ℕ) → Admitted log → VerdictOf (ranOf log .state) (judgeOf log .verdict)
 
 -- what the opening has and every step keeps, every state of a run has
 abbrev pub RunKeeps : Type 1
 RunKeeps =
-    (P : State → Type 0) → ((s t : State) (c : Choice) → P s → innerOf s c ≡ takenOf t → P t)
+    (P : State → Type 0) → ((s t : State) (c : Choice) → P s → stepOf s c ≡ takenOf t → P t)
     → (log : List ℕ) (k : ℕ) (s : State) → P (openingOf (heapOf log)) → Taken log k s → P s
 
 -- "A log that ends after any byte gives the run of its whole records."

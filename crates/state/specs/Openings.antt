@@ -47,7 +47,7 @@ openProcess h p roots = pick (ltb p (h .processes)) (openMutator roots) noProces
 unfoldable pub openHands : Hands
 openHands = record { kind = kind.Roots; phase = hand.IdleMarkSweep; work = 0 }
 
--- the roots of mutator p
+-- the roots of mutator i + 1
 abbrev pub rootsAt : Heap → ℕ → ℕ
 rootsAt h i = getD (h .roots) i 0
 

@@ -2,11 +2,12 @@
 --     formed-bounded       a well-formed state keeps the bounds that the verdicts lean on
 --     found-exactly        the finding that is computed is document 01's, and the only one
 --     malformed-exactly    verdict 4 exactly if the state is malformed
+--     formed-judged        of a well-formed state it is the finding that does not look for that
 --     formed-verdicts      each verdict of a well-formed state exactly if it applies and no lesser one does
 use mathlib.Core.Path.{_≡_, refl, sym, ap, _∙_}
 use mathlib.Core.Bool.{true, false}
 use mathlib.Core.Logic.{_⊎_, inl, inr, _↔_}
-use Prim.Native.Nat.{ℕ, _-_, _≤_, _<_}
+use Prim.Native.Nat.{ℕ, _≤_, _<_}
 use native.Mathlib.Omega.{arith}
 use native.Mathlib.Decide.{decLt, ℕ-discrete}
 use lib.ListN.{length, getD, length-take, List·getD-eq-default}
@@ -32,7 +33,7 @@ use Rattle.fits.specs.WellFormed.{wellFormedOf}
 use Rattle.fits.proofs.Whole.{well-formed}
 use Rattle.verdict.specs.declared.Finding.{Finding}
 use Rattle.verdict.specs.Judged.{isMalformed, found, Judged, loose, black, table, clean}
-use Rattle.verdict.specs.Findings.{Found, malformed, formed, findingOf, FormedBounded, FoundExactly, MalformedExactly, FormedVerdicts}
+use Rattle.verdict.specs.Findings.{Found, malformed, formed, findingOf, FormedBounded, FoundExactly, MalformedExactly, FormedJudged, FormedVerdicts}
 use Rattle.verdict.proofs.Verdicts.{judged-holds, judged-only, verdicts-exactly}
 
 -- ---- a process: the collector, a mutator, nobody
@@ -153,6 +154,9 @@ found-exactly s f = (λ e. rw e (found-holds s), found-only s)
 pub malformed-exactly : MalformedExactly
 malformed-exactly s = four-only s (found-holds s)
 
-pub formed-verdicts : FormedVerdicts
+pub formed-judged : FormedJudged
 unfolding findingOf
-formed-verdicts s w = rw (well-formed s .1 w) (verdicts-exactly s (formed-bounded s w))
+formed-judged s w = rw (well-formed s .1 w) refl
+
+pub formed-verdicts : FormedVerdicts
+formed-verdicts s w = rw (formed-judged s w) (verdicts-exactly s (formed-bounded s w))

@@ -30,6 +30,10 @@ FoundExactly = (s : State) (f : Finding) → (f ≡ findingOf s) ↔ Found s f
 abbrev pub MalformedExactly : Type 0
 MalformedExactly = (s : State) → (findingOf s .verdict ≡ isMalformed) ↔ (WellFormed s → ⊥)
 
+-- the finding of a well-formed state is the one that is made without looking for that
+abbrev pub FormedJudged : Type 0
+FormedJudged = (s : State) → WellFormed s → findingOf s ≡ judgedOf s
+
 -- and of a well-formed state each verdict exactly if it applies and no lesser one does, with the least such number
 abbrev pub FormedVerdicts : Type 0
 FormedVerdicts = (s : State) → WellFormed s → Verdicts s (findingOf s)

@@ -10,4 +10,4 @@ unfolding wordAt
 returns c = rw (← c .before .before .before .byte .ensures, ← c .before .before .byte2 .ensures, ← c .before .byte3 .ensures, ← c .byte4 .ensures) (search (needs, picks) depth 16)
 
 pub word-spec : {M : Type 1} → statement M
-word-spec = tie.close (tie.spec (search needs) (search needs) (search needs) (search needs) (search needs) (search needs) (search needs) (search needs) (search needs) (search needs) (search needs) (search needs) (search needs) (search needs) (search needs) (search needs) (search needs) returns)
+word-spec = tie.close (tie.spec (search needs) (search needs) (search needs) (search needs) (search needs) (search needs) (search needs) (search needs) (search needs) (search needs) (search needs) (search needs) (search needs) (search needs) (search needs) (search needs) (search needs) (search needs) returns)

@@ -1,6 +1,8 @@
 -- `verdict::colours::black` meets its contract. Assumes nothing.
+use mathlib.Core.Bool.{not}
+use mathlib.Core.Path.{ap}
 use borrow.Author.Needs.{needs}
-use Rattle.base.proofs.Picks.{picks}
+use Rattle.base.proofs.Picks.{picks, when-no, when-not-not}
 use Rattle.verdict.specs.Colours.{blackOf}
 use Rattle.verdict.proofs.colours.black.Statement.{statement}
 use Rattle.verdict.proofs.colours.black.Tie as tie
@@ -15,7 +17,10 @@ returns-2 c = search (needs, picks, c .if2 .taken, c .before .white .ensures, c 
 
 returns-3 : tie.Need-returns-3
 unfolding blackOf
-returns-3 c = rw (← c .member .ensures) (search (needs, picks, c .before .if2 .left, c .before .before .white .ensures, c .before .before .before .if1 .left, c .before .before .before .before .is-used .ensures) depth 16)
+returns-3 c =
+    let u = c .before .before .before in
+    when-not-not _ _ _ _ _ _ (u .before .is-used .ensures) (u .if1 .left)
+    (when-no _ _ _ _ _ _ (c .before .before .white .ensures) (c .before .if2 .left) (ap not (c .member .ensures)))
 
 pub black-spec : {M : Type 1} → statement M
 black-spec =
