@@ -12,7 +12,7 @@ use std::fmt::{Debug, Write};
 
 /// The stops that a log can reach. Stop 1 and stop 11 are not among them: a
 /// state reached from an opening is well formed and holds no loose cell.
-const STOPS: [u8; 13] = [0, 2, 3, 4, 5, 6, 7, 8, 9, 10, 12, 13, 14];
+pub(crate) const STOPS: [u8; 13] = [0, 2, 3, 4, 5, 6, 7, 8, 9, 10, 12, 13, 14];
 /// The longest header that is cut after its every byte, 7 + 3 * 2 + 4 bytes.
 const CUT_HEADER: usize = 17;
 
@@ -75,6 +75,11 @@ impl Coverage {
         }
         self.watch(log, outcome);
         outcome
+    }
+
+    /// How often the event was seen.
+    pub fn times(&self, event: Event) -> u64 {
+        self.events.get(&event).copied().unwrap_or(0)
     }
 
     fn record(&mut self, record: Record, history: &mut History) {
@@ -153,10 +158,7 @@ impl Coverage {
     /// What must be reached, with its counts.
     fn sections(&self) -> Vec<Section> {
         let sizes = LOG_LIMIT - 1..=LOG_LIMIT + 1;
-        let events = Event::ALL.iter().map(|event| {
-            let times = self.events.get(event).copied().unwrap_or(0);
-            (event.name().to_string(), times)
-        });
+        let event_line = |&event: &Event| (event.name().to_string(), self.times(event));
         vec![
             ("Stops", lines(STOPS, &self.stops)),
             (
@@ -177,7 +179,7 @@ impl Coverage {
                 lines(1..RECORD_LENGTH, &self.cut_records),
             ),
             ("Log sizes in bytes", lines(sizes, &self.sizes)),
-            ("Events", events.collect()),
+            ("Events", Event::ALL.iter().map(event_line).collect()),
         ]
     }
 

@@ -1,7 +1,7 @@
 //! A seeded generator of logs, guided by the judge so that runs go deep.
 
 use crate::header::{parse_header, Header};
-use crate::log::LOG_LIMIT;
+use crate::log::{LOG_LIMIT, RECORD_LENGTH};
 use crate::mood::Mood;
 use crate::number::TAKEN;
 use crate::place::CollectorPlace;
@@ -215,5 +215,27 @@ impl Generator {
         }
         walk.log.truncate(length);
         walk.log
+    }
+
+    /// A log of so many records, every one of them taken, over n cells and m
+    /// mutators. It mostly has collections, races for a mark and full buffers.
+    pub fn log_over(&mut self, n: u8, m: u8, records: usize) -> Vec<u8> {
+        let header = self.header_of(n, m);
+        let mut walk = open_with(&header);
+        let length = walk.log.len() + records * RECORD_LENGTH;
+        while walk.log.len() < length {
+            let mood = self.busy_mood();
+            self.walk(&mut walk, &mood, 200);
+        }
+        walk.log.truncate(length);
+        walk.log
+    }
+
+    fn busy_mood(&mut self) -> Mood {
+        match self.random.below(4) {
+            0 => Mood::random(&mut self.random),
+            1 => Mood::hoarding(&mut self.random),
+            _ => Mood::racing(&mut self.random),
+        }
     }
 }

@@ -7,9 +7,17 @@
 //! [`judge`] runs a whole log. [`step`] answers one choice on any state, also
 //! a malformed one. [`verdict`] weighs a state. [`Generator`] makes logs and
 //! [`Coverage`] says what they reached.
+//!
+//! With the feature `proved`, the module `proved` calls the proved judge, and
+//! `Comparison` holds the two against each other.
+
+#![deny(unsafe_code)]
 
 mod collector;
+#[cfg(feature = "proved")]
+mod compare;
 mod coverage;
+mod damage;
 mod events;
 mod generate;
 mod header;
@@ -23,13 +31,18 @@ mod mutator;
 pub mod number;
 mod openings;
 mod place;
+#[cfg(feature = "proved")]
+pub mod proved;
 mod random;
 mod refused;
 mod state;
 mod step;
 mod verdict;
 
+#[cfg(feature = "proved")]
+pub use compare::{Comparison, Difference};
 pub use coverage::Coverage;
+pub use damage::Damage;
 pub use events::Event;
 pub use generate::Generator;
 pub use header::{parse_header, Fault, Header};

@@ -48,6 +48,18 @@ impl Mood {
         }
     }
 
+    /// A mood that brings races for a mark: whoever is about to take the lock
+    /// mostly waits, so that others come to mark the same cell.
+    pub fn racing(random: &mut Random) -> Mood {
+        Mood {
+            collector: random.pick(&[15, 35]),
+            commits: [40; 5],
+            answer: 90,
+            operations: [2, 0, 10, 10, 0],
+            linger: Some(MarkStage::Lock),
+        }
+    }
+
     /// A mood that goes through a collection in few steps.
     pub fn brisk() -> Mood {
         Mood {

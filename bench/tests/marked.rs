@@ -56,13 +56,17 @@ fn the_example_files_are_the_marked_logs() {
         assert_eq!(log, case.log, "{}", case.file);
     }
     let expected = fs::read_to_string(examples().join("expected.txt")).expect("expected.txt");
-    assert_eq!(expected, expected_lines());
+    assert!(expected.starts_with(&expected_lines()));
 }
 
 #[test]
 fn expected_txt_agrees_with_the_judge() {
     let expected = fs::read_to_string(examples().join("expected.txt")).expect("expected.txt");
-    assert_eq!(expected.lines().count(), 13);
+    assert_eq!(
+        expected.lines().count(),
+        15,
+        "thirteen marked logs, and two more"
+    );
     for told in expected.lines() {
         let (file, outcome) = told.split_once(": ").expect("FILE: line");
         let log = fs::read(examples().join(file)).expect(file);
@@ -70,13 +74,12 @@ fn expected_txt_agrees_with_the_judge() {
     }
 }
 
-/// Writes the example files anew:
+/// Writes the marked logs anew:
 /// `cargo test --release --test marked -- --ignored`.
 #[test]
 #[ignore = "writes files"]
-fn write_the_example_files() {
+fn write_the_marked_logs() {
     for case in marked_cases() {
         fs::write(examples().join(case.file), case.log).expect(case.file);
     }
-    fs::write(examples().join("expected.txt"), expected_lines()).expect("expected.txt");
 }
