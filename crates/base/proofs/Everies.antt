@@ -3,13 +3,19 @@ use Prim.Native.Nat.{ℕ, zero, suc, _+_, _≤_, _<_}
 use native.Mathlib.Decide.{ℕ-discrete}
 use native.Mathlib.Numerals.{add-one}
 use native.Mathlib.Omega.{arith}
-use mathlib.Core.Path.{_≡_, refl, sym, ap, _∙_}
+use mathlib.Core.Path.{_≡_, refl, sym}
 use mathlib.Core.Bool.{Bool, true, false, false≢true}
+use Rattle.base.specs.Pick.{pick}
 use Rattle.base.specs.Every.{_and_, every}
 
 pub and-both : (a b : Bool) → a and b ≡ true → (a ≡ true) × (b ≡ true)
 and-both true b e = (refl, e)
 and-both false b e = absurd (false≢true e)
+
+-- a test that must fail before the rest
+pub unless : (a b : Bool) → pick a false b ≡ true → (a ≡ false) × (b ≡ true)
+unless true b e = absurd (false≢true e)
+unless false b e = (refl, e)
 
 pub and-false : (a : Bool) → a and false ≡ false
 and-false true = refl

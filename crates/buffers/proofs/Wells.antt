@@ -1,4 +1,5 @@
 -- Well-formed buffers: the test and the facts agree, and a buffer's steps keep them. Assumes nothing.
+--     cell-told, cell-test     a cell of 1 to n
 --     well-formed          `bufferFitsOf` holds exactly if `BufferFits` does
 --     empty-fits           the empty buffer is well formed
 --     none-pending         a well-formed buffer with no store pending is the empty one
@@ -27,10 +28,10 @@ use Rattle.buffers.specs.Buffers.{maxStores, emptyBuffer, pushOf, popOf}
 use Rattle.buffers.specs.Fits.{maxFields, IsCell, StoreFits, entryOf, BufferFits, isCellOf, storeFitsOf, storeEmptyOf, entryAtOf, bufferFitsOf}
 
 -- ---- a cell, a store, an unused entry
-cell-told : (n c : ℕ) → isCellOf n c ≡ true → IsCell n c
+pub cell-told : (n c : ℕ) → isCellOf n c ≡ true → IsCell n c
 cell-told n c e = let a = and-both (ltb 0 c) (leb c n) e in (ltb-true 0 c (a .0), leb-true c n (a .1))
 
-cell-test : (n c : ℕ) → IsCell n c → isCellOf n c ≡ true
+pub cell-test : (n c : ℕ) → IsCell n c → isCellOf n c ≡ true
 cell-test n c h = rw (lt-ltb 0 c (h .0), le-leb c n (h .1)) refl
 
 store-told : (n : ℕ) (s : Store) → storeFitsOf n s ≡ true → StoreFits n s

@@ -13,6 +13,7 @@ use Rattle.runlog.specs.declared.run.Run.{Run}
 use Rattle.runlog.specs.Statements.{afterOf, ranOf, choicesOf, Chosen}
 use Rattle.runlog.proofs.Formed.{heap-fitting, after-chosen, ran-chosen}
 use Rattle.claims.specs.Runs.{runOf}
+use Rattle.claims.specs.Posted.{Posted}
 use Rattle.claims.specs.Table.{Table}
 use Rattle.claims.specs.Counts.{setsType, finishesAnswer, timesOf, roundsBehind}
 use Rattle.claims.specs.Lock.{Lock}
@@ -33,6 +34,7 @@ keeps log a run e =
     let o = openingOf h in
     let cs = choicesOf log (run .steps) in
     record {
+      posted = moved log run e Posted (demand3 .posted h f cs);
       table = moved log run e Table (demand3 .table h f cs);
       behind = λ m l u. moved log run e (λ (s : State). timesOf setsType o cs ≡ timesOf (finishesAnswer m) o cs + roundsBehind (processOf s m)) (demand3 .behind h f cs m l u);
       lock = moved log run e Lock (demand3 .lock h f cs);

@@ -1,4 +1,5 @@
 -- Demand 3, whole: what holds of the state after any list of choices from any opening heap. Assumes nothing.
+use Rattle.claims.specs.Posted.{RunPosted}
 use Rattle.claims.specs.Table.{RunTable}
 use Rattle.claims.specs.Counts.{RunBehind}
 use Rattle.claims.specs.Lock.{RunLock}
@@ -8,6 +9,8 @@ use Rattle.claims.specs.Occupied.{RunOccupied}
 
 pub record Demand3 : Type 0 where
   -- "each mutator stands in the handshake table with the collector, at most one round behind"
+  -- the table is of the mutator and the system, whose phase is told by where the collector stands
+  pub posted : RunPosted
   pub table : RunTable
   pub behind : RunBehind
   -- "the memory lock is held by a process exactly while it is inside its compare and swap"

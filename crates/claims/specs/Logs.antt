@@ -11,6 +11,7 @@ use Rattle.header.specs.Header.{heapOf}
 use Rattle.header.specs.Admitted.{Admitted}
 use Rattle.runlog.specs.declared.run.Run.{Run}
 use Rattle.runlog.specs.Statements.{afterOf, ranOf, choicesOf}
+use Rattle.claims.specs.Posted.{Posted}
 use Rattle.claims.specs.Table.{Table}
 use Rattle.claims.specs.Counts.{setsType, finishesAnswer, timesOf, roundsBehind}
 use Rattle.claims.specs.Lock.{Lock}
@@ -20,6 +21,7 @@ use Rattle.claims.specs.Occupied.{none, occupiedBy, lastOf}
 
 -- the parts of demand 3, of a run of the log; its choices are those of the records that it took
 pub record Keeps (log : List ℕ) (run : Run) : Type 0 where
+  pub posted : Posted (run .state)
   pub table : Table (run .state)
   pub behind : (m : ℕ) → 0 < m → m ≤ mutatorsOf (openingOf (heapOf log)) →
       timesOf setsType (openingOf (heapOf log)) (choicesOf log (run .steps))

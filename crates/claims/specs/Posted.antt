@@ -10,6 +10,7 @@ use Rattle.state.specs.declared.State.{State}
 use Rattle.state.specs.Codes.{row1Round, row3Round, row4Round, row5Round, row6Round, raiseStage}
 use Rattle.state.specs.States.{nextOf, processOf}
 use Rattle.fits.specs.Fits.{amongOf}
+use Rattle.claims.specs.Runs.{Always}
 
 -- the system's handshake phase when the collector comes to a place
 abbrev pub comingOf : ℕ → Handshake
@@ -32,3 +33,7 @@ postedOf place stage = pick (amongOf place advancingRounds) (pick (leb raiseStag
 -- the system's handshake phase is the one that the collector's place and stage tell
 abbrev pub Posted : State → Type 0
 Posted s = s .hands .phase ≡ postedOf (processOf s 0 .place) (processOf s 0 .stage)
+
+-- after any choices
+abbrev pub RunPosted : Type 0
+RunPosted = Always Posted

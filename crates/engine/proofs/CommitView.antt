@@ -7,6 +7,7 @@ use mathlib.Core.Logic.{_⊎_, ⊎-elim}
 use mathlib.Core.List.{List, [], _∷_}
 use Prim.Native.Nat.{ℕ, _≤_, _<_}
 use native.Mathlib.Omega.{arith}
+use Rattle.base.proofs.Picking.{pick-ind, pick-no}
 use Rattle.buffers.specs.declared.Entry.{Entry}
 use Rattle.buffers.specs.declared.Spot.{Spot}
 use Rattle.buffers.specs.declared.Spot.the-variants as spot
@@ -14,7 +15,8 @@ use Rattle.buffers.specs.Stores.{spotOf}
 use Rattle.memory.specs.declared.Memory.{Memory}
 use Rattle.memory.specs.Memories.{asTaken, byNonePending, byBlocked, byFree, taken, thereOf}
 use Rattle.memory.specs.Steps.{commitOf}
-use Rattle.memory.proofs.Shapes.{Shaped, pendingFor, pending-is, oldestOf}
+use Rattle.memory.specs.Views.{pendingFor}
+use Rattle.memory.proofs.Shapes.{Shaped, pending-is, oldestOf}
 use Rattle.memory.proofs.Spots.{there-mark, there-field, there-sense, there-alloc-sense, there-phase}
 use Rattle.memory.proofs.Refusals.{commit-no}
 use Rattle.memory.proofs.Effects.{is-taken}
@@ -29,7 +31,6 @@ use Rattle.rows.specs.Rows as row
 use Rattle.rows.specs.Reasons as reason
 use Rattle.rows.specs.Reasons.{waiting, Blocked, OnFree, NotOffered, Hindered, Waits, OfFree, Reason}
 use Rattle.rows.specs.Views.{OwnFirst, OwnClear, View, stops, goes}
-use Rattle.rows.proofs.Picking.{pick-ind, pick-no}
 use Rattle.rows.proofs.Numbers.{is-blocked, un-blocked}
 use Rattle.rows.proofs.Offering.{blank-bare, bare-blank}
 use Rattle.engine.specs.Steps.{commitStep}

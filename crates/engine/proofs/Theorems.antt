@@ -15,6 +15,7 @@ use native.Mathlib.Omega.{arith}
 use native.Mathlib.Decide.{decLt}
 use lib.Dec.{leb}
 use borrow.Author.Tests.{leb-true, leb-false, lt-leb, ne-eqb, eq-eqb}
+use Rattle.base.proofs.Picking.{pick-ind, pick-no}
 use Rattle.state.specs.declared.State.{State}
 use Rattle.state.specs.declared.Choice.{Choice}
 use Rattle.state.specs.declared.Answer.{Answer}
@@ -34,7 +35,6 @@ use Rattle.mutator.specs.Mutators.{mutatorOf}
 use Rattle.collector.specs.Collectors.{collectorOf}
 use Rattle.rows.specs.Views as view
 use Rattle.rows.specs.Views.{View}
-use Rattle.rows.proofs.Picking.{pick-ind, pick-no}
 use Rattle.rows.proofs.MutatorView.{mutator-view-at}
 use Rattle.rows.proofs.MutatorRows.{mutator-complete-at}
 use Rattle.rows.proofs.CollectorView.{collector-view}

@@ -5,8 +5,8 @@
 // In a process:
 //     P p c f v   is at the place cf, two digits, and the stage v
 //     X, Y, O, C p . . v   has the note x, y, old, cell      L, W, R p . . v   has left, list, roots, each a set as a number      U p   has its flag raised
-use super::Act;
 use super::places;
+use super::text;
 use buffers::Buffer;
 use buffers::Entry;
 use buffers::Store;
@@ -16,6 +16,36 @@ use state::Handshake;
 use state::Part;
 use state::Process;
 use state::State;
+
+// One change: a letter and four digits.
+pub struct Act {
+    pub letter: u8,
+    pub p: u8,
+    pub c: u8,
+    pub f: u8,
+    pub v: u8,
+}
+
+// A change, behind its sign.
+pub fn change(s: &[u8]) -> Act {
+    Act {
+        letter: text::byte(s, 1),
+        p: text::digit(s, 2),
+        c: text::digit(s, 3),
+        f: text::digit(s, 4),
+        v: text::digit(s, 5),
+    }
+}
+
+// Two digits as a number.
+fn number(tens: u8, ones: u8) -> u8 {
+    if tens < 10 {
+        if ones < 10 {
+            return tens * 10 + ones;
+        }
+    }
+    0
+}
 
 // ---- memory
 
@@ -86,16 +116,6 @@ fn set(mut q: Process, letter: u8, s: u64) -> Process {
     q
 }
 
-// Two digits as a number.
-fn number(tens: u8, ones: u8) -> u8 {
-    if tens < 10 {
-        if ones < 10 {
-            return tens * 10 + ones;
-        }
-    }
-    0
-}
-
 fn in_process(mut q: Process, a: Act) -> Process {
     let letter = a.letter;
     match letter {
@@ -111,7 +131,7 @@ fn in_process(mut q: Process, a: Act) -> Process {
 }
 
 // A capital changes a process, any other letter memory.
-pub fn act(mut s: State, a: Act) -> State {
+pub fn changed(mut s: State, a: Act) -> State {
     if a.letter <= b'Z' {
         let q = s.process(a.p);
         return s.with_process(a.p, in_process(q, a));

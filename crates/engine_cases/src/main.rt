@@ -1,30 +1,18 @@
-// Runs each kind of step from states made by hand and prints a line for each: what was tried, and the answer. The file stdout beside src/ has what document 01 wants.
+// Runs each kind of step from states made by hand and prints a line for each: what was tried, and the answer. The cases are the program's input, the file stdin beside src/,
+// one to a line: a name, the changes of the ground, the choice. The file stdout has what document 01 wants.
 // An answer is document 01's number. After a taken step, 0, comes where the process then is, as >place/stage; after a refusal an = where the state is the same, else an !.
 // The ground: three cells, of which 1 and 2 are occupied with mark 1, cell 1 names cell 2 in its field 0, and 3 is free; two mutators, 1 with the roots 1 and 2, 2 with the root 1;
 // all else as at an opening: fM and fA 1, phase Idle, type roots, flags down, the collector's noted fM 0. A case names the place of its process, and what is changed of the ground.
 mod acts;
-mod arguments;
-mod blocks;
-mod firsts;
-mod frees;
-mod operations;
 mod places;
-mod rooms;
 mod same;
+mod text;
 
+use state::Answer;
 use state::Choice;
 use state::Process;
 use state::State;
 use state::opening::Heap;
-
-// One change of the ground: a letter (see `acts`) and four digits.
-struct Act {
-    letter: u8,
-    p: u8,
-    c: u8,
-    f: u8,
-    v: u8,
-}
 
 fn say(text: &[u8]) {
     io::write_all(1, text);
@@ -34,42 +22,15 @@ fn tell(n: u8) {
     io::print_decimal(1, n as u64);
 }
 
-fn byte(s: &[u8], i: usize) -> u8 {
-    if i < s.len() {
-        return s[i];
-    }
-    0
-}
-
-// A digit; a star is 255, and what is below the digits is 0.
-fn digit(s: &[u8], i: usize) -> u8 {
-    let b = byte(s, i);
-    if b == b'*' {
-        return 255;
-    }
-    if b < b'0' { 0 } else { b - b'0' }
-}
-
-// A change, behind its sign: a letter and four digits.
-fn change(s: &[u8]) -> Act {
-    Act {
-        letter: byte(s, 1),
-        p: digit(s, 2),
-        c: digit(s, 3),
-        f: digit(s, 4),
-        v: digit(s, 5),
-    }
-}
-
 // A choice, behind its sign: six digits, as a record has them: process, kind, operation, x, f, y.
 fn choice(s: &[u8]) -> Choice {
     Choice {
-        process: digit(s, 1),
-        kind: digit(s, 2),
-        op: digit(s, 3),
-        x: digit(s, 4),
-        f: digit(s, 5),
-        y: digit(s, 6),
+        process: text::digit(s, 1),
+        kind: text::digit(s, 2),
+        op: text::digit(s, 3),
+        x: text::digit(s, 4),
+        f: text::digit(s, 5),
+        y: text::digit(s, 6),
     }
 }
 
@@ -95,19 +56,23 @@ fn place(q: Process) {
     tell(q.stage);
 }
 
-// One step, and its answer.
-fn told(s: State, c: Choice) {
-    let a = engine::step(s, c);
+// The answer of a step of process p from the state s.
+fn answer(s: State, p: u8, a: Answer) {
     let t = a.state;
     say(b" ");
     tell(a.no);
-    if a.no == 0 {
-        place(t.process(c.process));
-    } else if same::state(s, t, c.process) {
+    if a.no == Answer::TAKEN {
+        place(t.process(p));
+    } else if same::state(s, t, p) {
         say(b"=");
     } else {
         say(b"!");
     }
+}
+
+// One step, and its answer.
+fn told(s: State, c: Choice) {
+    answer(s, c.process, engine::step(s, c));
 }
 
 // The same with the lock held by nobody, by the collector, by mutator 1, by mutator 2: four answers.
@@ -125,20 +90,23 @@ fn echo(s: &[u8]) {
 }
 
 // How many bytes belong to the first.
-fn more(b: u8) -> usize {
+fn more(text: &[u8]) -> usize {
+    let b = text::byte(text, 0);
     match b {
         b'+' => 5,
         b'=' => 6,
         b'#' => 6,
+        b';' => text::rest(text),
         _ => 0,
     }
 }
 
-// What stands first in the text: + a change; = a choice, # a choice with each holder of the lock, after which the ground is as before; else a byte of a line.
+// What stands first in the text: + a change; = a choice, # a choice with each holder of the lock, after which the ground is as before; a semicolon, behind which is why the cases
+// below it are there; else a byte of a line.
 fn turn(s: State, text: &[u8]) -> State {
-    let b = byte(text, 0);
+    let b = text::byte(text, 0);
     match b {
-        b'+' => acts::act(s, change(text)),
+        b'+' => acts::changed(s, acts::change(text)),
         b'=' => {
             told(s, choice(text));
             ground()
@@ -147,6 +115,7 @@ fn turn(s: State, text: &[u8]) -> State {
             locks(s, choice(text));
             ground()
         }
+        b';' => s,
         _ => {
             echo(text);
             s
@@ -154,13 +123,14 @@ fn turn(s: State, text: &[u8]) -> State {
     }
 }
 
-// A table of lines: a name, the changes of the ground, the choice.
+// All cases, each from the ground.
 fn table(text: &[u8]) {
     let mut s = ground();
     let mut at = 0;
     while at < text.len() {
-        s = turn(s, &text[at..]);
-        let k = more(text[at]);
+        let first = &text[at..];
+        s = turn(s, first);
+        let k = more(first);
         if text.len() - at <= k {
             return;
         }
@@ -169,10 +139,7 @@ fn table(text: &[u8]) {
 }
 
 fn main() {
-    firsts::lines();
-    operations::lines();
-    arguments::lines();
-    blocks::lines();
-    rooms::lines();
-    frees::lines();
+    let mut text = io::large_buffer();
+    let n = io::read_full(0, &mut text);
+    table(&text[..n]);
 }

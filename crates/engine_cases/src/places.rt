@@ -19,12 +19,13 @@ fn scanning(mut q: Process) -> Process {
 // The notes of the operation or the row, and what is left: roots 1 and 2, or cells 1 to 3.
 fn noted(mut q: Process, place: u8) -> Process {
     match place {
-        1..=3 => return storing(q),
-        7 => q.left = 3,
-        22 => q.work = 3,
-        23..=26 => return scanning(q),
-        30 => q.left = 7,
-        31 => {
+        Process::STORE_MARK_OLD | Process::STORE_MARK_Y | Process::STORE_WRITE => return storing(q),
+        Process::ROOTS_MARK => q.left = 3,
+        Process::ROW7_READ0 => q.work = 3,
+        Process::ROW7_MARK0 | Process::ROW7_READ1 | Process::ROW7_MARK1 | Process::ROW7_DROP =>
+            return scanning(q),
+        Process::ROW10_LOOK => q.left = 7,
+        Process::ROW10_FREE => {
             q.x = 1;
             q.left = 6;
         }
@@ -36,9 +37,9 @@ fn noted(mut q: Process, place: u8) -> Process {
 // A mark's notes: its cell is 2, the first look from the second stage, the noted fM from the third, the cell being greyed at the seventh.
 fn marked(mut q: Process, stage: u8, cell: u8) -> Process {
     q.cell = cell;
-    q.look = 2 <= stage;
-    q.sense = 3 <= stage;
-    if stage == 7 {
+    q.look = Process::SENSE <= stage;
+    q.sense = Process::PHASE <= stage;
+    if stage == Process::UNLOCK {
         q.grey = 2;
     }
     q
@@ -46,7 +47,7 @@ fn marked(mut q: Process, stage: u8, cell: u8) -> Process {
 
 // A round awaits mutators 1 and 2 while it raises and polls.
 fn awaiting(mut q: Process, stage: u8) -> Process {
-    if 3 <= stage {
+    if Process::RAISE <= stage {
         q.left = 3;
     }
     q
@@ -55,16 +56,14 @@ fn awaiting(mut q: Process, stage: u8) -> Process {
 // At places 1 and 2 the cell being marked is the store's own note; at 7, stage 1, it is not yet named.
 fn staged(q: Process, place: u8, stage: u8) -> Process {
     match place {
-        1 => marked(q, stage, 0),
-        2 => marked(q, stage, 0),
-        7 => {
-            if stage == 1 {
+        Process::STORE_MARK_OLD | Process::STORE_MARK_Y => marked(q, stage, 0),
+        Process::ROOTS_MARK => {
+            if stage == Process::LOOK {
                 return q;
             }
             marked(q, stage, 2)
         }
-        23 => marked(q, stage, 2),
-        25 => marked(q, stage, 2),
+        Process::ROW7_MARK0 | Process::ROW7_MARK1 => marked(q, stage, 2),
         _ => awaiting(q, stage),
     }
 }

@@ -12,7 +12,7 @@ use lib.Dec.{eqb, ltb, leb}
 use borrow.Author.Tests.{leb-true, ltb-true, eqb-true, lt-ltb, le-leb, eq-eqb, ne-eqb}
 use Rattle.base.specs.Pick.{pick}
 use Rattle.base.specs.Every.{_and_}
-use Rattle.base.proofs.Everies.{and-both}
+use Rattle.base.proofs.Everies.{and-both, unless}
 use Rattle.cells.specs.Sets.{noCells, belowOf}
 use Rattle.state.specs.declared.Handshake.{Handshake}
 use Rattle.state.specs.declared.Handshake.the-variants as hand
@@ -23,7 +23,7 @@ use Rattle.state.specs.States.{noPart, noProcess, phaseNumber}
 use Rattle.fits.specs.Uses.{row, noNotes, ofStore, aCell, nothingLeft, cellsLeft, unstaged, ofOld, ofY, ofNamed, nothingRow, roundRow, scanRow, scanMarkRow, usesOf}
 use Rattle.fits.specs.Fits.{Unnoted, Unmarked, Idle, StoreMark, RootsFirst, RootsRest, MutatorAt, idle, mark-old, mark-y, write, roots-first, roots-rest, MutatorFits, CollectorAt, plain, round, scan, scan-mark, sweep, sweep-free, CollectorFits}
 use Rattle.fits.specs.WellFormed.{noStoreOf, notesFitOf, leftFitsOf, noMarkOf, markFitsOf, namedFitsOf, roundFitsOf, stageFitsOf, placeFitsOf, senseFitsOf, mutatorFitsOf, noPartOf, collectorFitsOf, nobodyOf}
-use Rattle.fits.proofs.Columns.{unless, late-told, late-test, store-told, store-test, NoStore, unnoted-told, unnoted-test, noted-told, noted-test, mark-told, mark-test, unmarked-told, unmarked-test, left-told, left-test, columns, joined}
+use Rattle.fits.proofs.Columns.{late-told, late-test, store-told, store-test, NoStore, unnoted-told, unnoted-test, noted-told, noted-test, mark-told, mark-test, unmarked-told, unmarked-test, left-told, left-test, columns, joined}
 use Rattle.fits.proofs.Places.{MutatorPlace, is-idle, is-mark-old, is-mark-y, is-write, is-roots, mutator-place, CollectorPlace, is-plain, is-round, is-scan, is-scan-mark, is-sweep, is-sweep-free, collector-place, uses-idle, uses-plain, uses-round, uses-scan, uses-scan-mark, idle-mutator, isCollectors, plain-collector, round-collector, scan-collector, scan-mark-collector}
 
 -- ---- a mutator

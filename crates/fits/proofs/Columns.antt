@@ -1,6 +1,4 @@
 -- Each column of the table of uses: the test and the facts agree. Assumes nothing.
---     cell-told, cell-test           a cell of 1 to n
---     unless                         a test that must fail before the rest
 --     late-told, late-test           a bit that is noted from a stage on
 --     store-told, store-test         the notes of a store
 --     unnoted-told, unnoted-test     no notes
@@ -19,22 +17,18 @@ use lib.Dec.{eqb, ltb, leb}
 use borrow.Author.Tests.{leb-true, ltb-true, eqb-true, lt-ltb, le-leb, lt-leb, eq-eqb, ne-eqb}
 use Rattle.base.specs.Pick.{pick}
 use Rattle.base.specs.Every.{_and_}
-use Rattle.base.proofs.Everies.{and-both}
+use Rattle.base.proofs.Picking.{picked}
+use Rattle.base.proofs.Everies.{and-both, unless}
 use Rattle.cells.specs.Sets.{noCells, belowOf}
 use Rattle.cells.proofs.Belows.{below-empty}
 use Rattle.buffers.specs.Fits.{maxFields, IsCell, isCellOf}
+use Rattle.buffers.proofs.Wells.{cell-told, cell-test}
 use Rattle.state.specs.declared.Process.{Process}
 use Rattle.state.specs.Codes.{senseStage, unlockStage, raiseStage}
 use Rattle.fits.specs.declared.table.Uses.{Uses}
 use Rattle.fits.specs.Uses.{usesOf, mutatorsLeft}
 use Rattle.fits.specs.Fits.{StoreNotes, Unnoted, MarkNotes, Unmarked}
 use Rattle.fits.specs.WellFormed.{storeFitsOf, noStoreOf, notesFitOf, leftFitsOf, noMarkOf, lookFitsOf, greyFitsOf, markFitsOf, stageFitsOf, placeFitsOf}
-
-pub cell-told : (n c : ℕ) → isCellOf n c ≡ true → IsCell n c
-cell-told n c e = let a = and-both (ltb 0 c) (leb c n) e in (ltb-true 0 c (a .0), leb-true c n (a .1))
-
-pub cell-test : (n c : ℕ) → IsCell n c → isCellOf n c ≡ true
-cell-test n c h = rw (lt-ltb 0 c (h .0), le-leb c n (h .1)) refl
 
 pub late-told : (b : Bool) (k s : ℕ) → pick b (leb k s) true ≡ true → s < k → b ≡ false
 late-told true k s e h = let l : k ≤ s = leb-true k s e in absurd (omega arith)
@@ -47,14 +41,6 @@ late-test true k s h = go (decLt s k)
     go (yes l) = absurd (false≢true (sym (h l)))
     go (no l) = le-leb k s (omega arith)
 late-test false k s h = refl
-
-pub unless : (a b : Bool) → pick a false b ≡ true → (a ≡ false) × (b ≡ true)
-unless true b e = absurd (false≢true e)
-unless false b e = (refl, e)
-
-either-way : (b : Bool) → pick b true true ≡ true
-either-way true = refl
-either-way false = refl
 
 module _ (n : ℕ) (q : Process) where
   -- ---- the notes of an operation or a row
@@ -121,7 +107,7 @@ module _ (n : ℕ) (q : Process) where
     where
       go : Dec (q .stage < unlockStage) → greyFitsOf c q ≡ true
       go (yes k) = rw (eq-eqb (q .grey) 0 (z k)) refl
-      go (no k) = let e : q .stage ≡ unlockStage = omega arith in rw (eq-eqb (q .stage) unlockStage e, eq-eqb (q .grey) c h) (either-way (eqb (q .grey) 0))
+      go (no k) = let e : q .stage ≡ unlockStage = omega arith in rw (eq-eqb (q .stage) unlockStage e, eq-eqb (q .grey) c h) (picked (λ t. t ≡ true) (eqb (q .grey) 0) refl refl)
 
   pub mark-told : (c : ℕ) → markFitsOf n c q ≡ true → MarkNotes n (q .stage) c (q .look) (q .grey)
   unfolding markFitsOf lookFitsOf

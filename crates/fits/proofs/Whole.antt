@@ -1,7 +1,7 @@
 -- The whole state: the test and the facts agree. Assumes nothing.
 --     well-formed      `wellFormedOf` holds exactly if `WellFormed` does
 use mathlib.Core.Path.{_≡_}
-use mathlib.Core.Bool.{Bool, true, false}
+use mathlib.Core.Bool.{true}
 use mathlib.Core.List.{List}
 use mathlib.Core.Logic.{_↔_}
 use Prim.Native.Nat.{ℕ, suc, _-_, _≤_, _<_}
@@ -10,8 +10,8 @@ use native.Mathlib.Omega.{arith}
 use lib.Dec.{eqb, eqb·suc-zero}
 use lib.ListN.{length, getD}
 use borrow.Author.Tests.{leb-true, eqb-true, lt-ltb, le-ltb, le-leb, eq-eqb, ne-eqb}
-use Rattle.base.specs.Pick.{pick}
 use Rattle.base.specs.Every.{_and_, every}
+use Rattle.base.proofs.Picking.{picked}
 use Rattle.base.proofs.Everies.{and-both, every-at, every-all}
 use Rattle.base.proofs.Lists.{beyond}
 use Rattle.cells.specs.Sets.{belowOf}
@@ -35,13 +35,9 @@ entries-sized : (m : Memory) → sound.WellFormed m → (p : ℕ) → p < maxPro
 entries-sized m w p h = shaped m w .sized p h .entries
 
 -- ---- values of fields
-either-le : (b : Bool) (x y n : ℕ) → x ≤ n → y ≤ n → pick b x y ≤ n
-either-le true x y n h g = h
-either-le false x y n h g = g
-
 at-told : (n : ℕ) (l : List ℕ) → length l ≡ maxCells → fieldsFitOf n l ≡ true → (c : ℕ) → atCell l c 0 ≤ n
 unfolding fieldsFitOf
-at-told n l s e c = either-le (eqb c 0) 0 (getD l (c - 1) 0) n (omega arith) (go (decLt (c - 1) maxCells))
+at-told n l s e c = picked (λ v. v ≤ n) (eqb c 0) (omega arith) (go (decLt (c - 1) maxCells))
   where
     go : Dec (c - 1 < maxCells) → getD l (c - 1) 0 ≤ n
     go (yes h) = leb-true _ _ (every-at (fieldAt n l) maxCells (c - 1) e h)
@@ -60,7 +56,7 @@ module _ (m : Memory) (z : sound.WellFormed m) where
   values-told e =
       let a = and-both (fieldsFitOf (m .cells) (m .field0)) (fieldsFitOf (m .cells) (m .field1) and pendingFitOf (m .cells) (m .buffers)) e in
       let b = and-both (fieldsFitOf (m .cells) (m .field1)) (pendingFitOf (m .cells) (m .buffers)) (a .1) in
-      (λ c f. either-le (eqb f 0) (atCell (m .field0) c 0) (atCell (m .field1) c 0) (m .cells) (at-told (m .cells) (m .field0) (z .field0-sized) (a .0) c) (at-told (m .cells) (m .field1) (z .field1-sized) (b .0) c), λ p i. buffer p i (b .1) (decLt p maxProcesses))
+      (λ c f. picked (λ v. v ≤ m .cells) (eqb f 0) (at-told (m .cells) (m .field0) (z .field0-sized) (a .0) c) (at-told (m .cells) (m .field1) (z .field1-sized) (b .0) c), λ p i. buffer p i (b .1) (decLt p maxProcesses))
     where
       none : 0 ≤ m .cells
       none = omega arith

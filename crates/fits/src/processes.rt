@@ -98,7 +98,7 @@ fn process_fits(n: u8, m: u8, p: usize, q: Process) -> bool
     mutator_fits(n, m, q)
 }
 
-pub fn procs_fit(n: u8, m: u8, procs: [Process; 5]) -> bool
+pub fn procs_fit(n: u8, m: u8, procs: [Process; State::PROCESSES]) -> bool
     ensures { λ r. ⌜ r ≡ procsFitOf n m procs ⌝ }
 {
     let mut p = 0;

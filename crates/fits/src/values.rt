@@ -5,7 +5,7 @@ ghost use mathlib.Core.Path.{_≡_};
 ghost use Rattle.fits.specs.WellFormed.{fieldsFitOf, storesFitOf, pendingFitOf, valuesFitOf};
 
 // One field of every cell.
-fn fields_fit(n: u8, fields: [u8; 32]) -> bool
+fn fields_fit(n: u8, fields: [u8; Memory::CELLS]) -> bool
     ensures { λ r. ⌜ r ≡ fieldsFitOf n fields ⌝ }
 {
     let mut i = 0;
@@ -36,7 +36,7 @@ fn stores_fit(n: u8, b: Buffer) -> bool
     true
 }
 
-fn pending_fit(n: u8, buffers: [Buffer; 5]) -> bool
+fn pending_fit(n: u8, buffers: [Buffer; Memory::PROCESSES]) -> bool
     ensures { λ r. ⌜ r ≡ pendingFitOf n buffers ⌝ }
 {
     let mut p = 0;

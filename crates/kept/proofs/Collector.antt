@@ -17,6 +17,7 @@ use Rattle.memory.specs.declared.Memory.{Memory}
 use Rattle.memory.specs.Memories.{taken}
 use Rattle.memory.specs.Looks.{lookFieldOf}
 use Rattle.memory.specs.Steps.{writeOf, freeOf}
+use Rattle.sound.specs.WellFormed as sound
 use Rattle.sound.proofs.Kept.{write-kept, free-kept}
 use Rattle.state.specs.declared.Kind.{Kind}
 use Rattle.state.specs.declared.Process.{Process}
@@ -82,7 +83,7 @@ module _ (s : State) (c : Choice) (q : Process) (w : WellFormed s) (f : Collecto
   here = omega (arith, w .memory .some-processes)
 
   seen : {v : ℕ} (x i : ℕ) → lookFieldOf (s .memory) 0 x i ≡ seesValue v → v ≤ s .memory .cells
-  seen {v} x i e = seen-value (s .memory) 0 x i v (ranged s w) e
+  seen {v} x i e = seen-value (ranged s w) 0 x i v e
 
   rounded : {k j l i : ℕ} {t : Kind} → RoundRow k t j l → At k i q → Round (mutatorsOf s) q
   rounded r a = round-at _ (round-place r) (a .place) f
@@ -93,10 +94,13 @@ module _ (s : State) (c : Choice) (q : Process) (w : WellFormed s) (f : Collecto
   -- a write of fM, fA or the phase, which holds no cell and no value
   wrote : (v : Store) {m : Memory} (t : Process) → StoreFits (s .memory .cells) v → valueOf v ≡ 0 → writeOf (s .memory) 0 (record { store = v }) ≡ taken m → CollectorFits (s .memory .cells) (mutatorsOf s) t → WellFormed (withProcess (withMemory s m) 0 t)
   wrote v {m} t i z e k =
-      moved s w m (rw e at (write-kept (s .memory) 0 (w .memory) here (record { store = v }) i)) (rw e at (write-ranged (s .memory) 0 (ranged s w) (record { store = v }) (omega arith))) 0 t (omega arith) (collects refl k)
+      let u : sound.WellFormed m = rw e at (write-kept (s .memory) 0 (w .memory) here (record { store = v }) i) in
+      moved s w m u (write-ranged 0 (w .memory) u (ranged s w) (record { store = v }) (omega arith) e) 0 t (omega arith) (collects refl k)
 
-  freed : {m : Memory} (t : Process) → freeOf (s .memory) 0 (q .x) ≡ taken m → CollectorFits (s .memory .cells) (mutatorsOf s) t → WellFormed (withProcess (withMemory s m) 0 t)
-  freed {m} t e k = moved s w m (rw e at (free-kept (s .memory) 0 (w .memory) here (q .x))) (rw e at (free-ranged (s .memory) 0 (ranged s w) (q .x))) 0 t (omega arith) (collects refl k)
+  freed : {m : Memory} (t : Process) → IsCell (s .memory .cells) (q .x) → freeOf (s .memory) 0 (q .x) ≡ taken m → CollectorFits (s .memory .cells) (mutatorsOf s) t → WellFormed (withProcess (withMemory s m) 0 t)
+  freed {m} t i e k =
+      let u : sound.WellFormed m = rw e at (free-kept (s .memory) 0 (w .memory) here (q .x)) in
+      moved s w m u (free-ranged 0 (w .memory) u (ranged s w) (q .x) i e) 0 t (omega arith) (collects refl k)
 
   -- a flag is raised
   raised : (x : ℕ) (t : Process) → IsCell (mutatorsOf s) x → CollectorFits (s .memory .cells) (mutatorsOf s) t → WellFormed (withProcess (withProcess s x (flagged (processOf s x))) 0 t)
@@ -199,9 +203,9 @@ module _ (s : State) (c : Choice) (q : Process) (w : WellFormed s) (f : Collecto
       (record { stage = refl; is-x = below-range (q .left) (s .memory .cells) (c .x) (k .left) m; left = below-remove (q .left) (c .x) (s .memory .cells) (k .left); mark = k .mark })))
   collector-kept (Collector.frees a b e h) =
       let k = sweep-free-at (a .place) f in
-      freed _ e (renoted f (f .work) (sweep refl (record { stage = refl; no-x = refl; left = k .left; mark = k .mark })))
+      freed _ (k .is-x) e (renoted f (f .work) (sweep refl (record { stage = refl; no-x = refl; left = k .left; mark = k .mark })))
   collector-kept (Collector.frees-last a b e h) =
       let k = sweep-free-at (a .place) f in
-      freed _ e (renoted f (f .work) (now-plain refl refl refl h (k .mark)))
+      freed _ (k .is-x) e (renoted f (f .work) (now-plain refl refl refl h (k .mark)))
   collector-kept (Collector.writes-idle a b e) =
       let k = plain-at row11Write refl (a .place) f in wrote (store.Phase phase.Idle) _ tt refl e (renoted f (f .work) (now-round refl refl (k .no-x) (k .left) (k .mark)))

@@ -28,7 +28,7 @@ use Rattle.rows.specs.Reasons.{mover}
 use Rattle.kept.specs.Leaves.{Writes, Stored, Occupied, Handed, Beside, Changed}
 use Rattle.kept.specs.Kept.{Counted}
 use Rattle.kept.proofs.Frames.{named, off-process}
-use Rattle.kept.proofs.Memories.{write-settled, commit-settled, lock-settled, unlock-settled, allocate-counted, free-counted, allocate-used, free-used}
+use Rattle.kept.proofs.Memories.{write-settled, commit-settled, lock-settled, unlock-settled, settled-counted, allocate-counted, free-counted, allocate-used, free-used}
 use Rattle.kept.proofs.Collector.{round-place}
 
 -- ---- each row makes one of five changes
@@ -112,12 +112,12 @@ changed-memory (Changed.commits k h) = Stored.commits k h
 
 stored-counts : {c : Choice} {p : ℕ} {q : Process} {m n : Memory} → Stored c p q m n → Counted m n
 stored-counts Stored.same = record { cells = refl; processes = refl }
-stored-counts {p = p} {m = m} (Stored.writes z {v = v} k e) = write-settled m p (record { store = v }) e .counts
-stored-counts {p = p} {m = m} (Stored.locks z k i e) = lock-settled m p e .counts
-stored-counts {p = p} {m = m} (Stored.unlocks z k i e) = unlock-settled m p e .counts
+stored-counts {p = p} {m = m} (Stored.writes z {v = v} k e) = settled-counted (write-settled m p (record { store = v }) e)
+stored-counts {p = p} {m = m} (Stored.locks z k i e) = settled-counted (lock-settled m p e)
+stored-counts {p = p} {m = m} (Stored.unlocks z k i e) = settled-counted (unlock-settled m p e)
 stored-counts {c = c} {p = p} {m = m} (Stored.allocates z i o e) = allocate-counted m p (c .x) e
 stored-counts {p = p} {q = q} {m = m} (Stored.frees z i e) = free-counted m p (q .x) e
-stored-counts {p = p} {m = m} (Stored.commits k e) = commit-settled m p e .counts
+stored-counts {p = p} {m = m} (Stored.commits k e) = settled-counted (commit-settled m p e)
 
 stored-used : {c : Choice} {p : ℕ} {q : Process} {m n : Memory} → Stored c p q m n → Occupied c q (m .used) (n .used)
 stored-used Stored.same = Occupied.same

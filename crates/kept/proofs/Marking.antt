@@ -16,6 +16,8 @@ use Rattle.cells.proofs.Belows.{below-add}
 use Rattle.buffers.specs.declared.Store.the-variants as store
 use Rattle.buffers.specs.Fits.{IsCell}
 use Rattle.memory.specs.declared.Memory.{Memory}
+use Rattle.memory.specs.Memories.{taken}
+use Rattle.memory.specs.Steps.{lockOf, unlockOf}
 use Rattle.sound.specs.WellFormed as sound
 use Rattle.sound.proofs.Kept.{write-kept, lock-kept, unlock-kept}
 use Rattle.state.specs.declared.Process.{Process}
@@ -180,16 +182,23 @@ module _ {n m p r : ℕ} {q : Process} (f : Fits n m p q) (k : Running n m p r q
   mark-fits (Mark.loses e g h i) = next-fits n m p q (q .sense) (q .work) (k .work) f i
 
 module _ {c j : ℕ} (m : Memory) (p r : ℕ) (w : sound.WellFormed m) (v : Ranged c j m) (mine : p < m .processes) (is : IsCell (m .cells) r) where
+  locked : {n : Memory} → lockOf m p ≡ taken n → sound.WellFormed n × Ranged c j n
+  locked g = let a = rw g at (lock-kept m p w mine) in (a, lock-ranged p w a v g)
+
+  unlocked : {n : Memory} → unlockOf m p ≡ taken n → sound.WellFormed n × Ranged c j n
+  unlocked g = let a = rw g at (unlock-kept m p w mine) in (a, unlock-ranged p w a v g)
+
   pub mark-memory : {q t : Process} {n : Memory} → Mark m p r q n t → sound.WellFormed n × Ranged c j n
   mark-memory (Mark.looks e g) = (w, v)
   mark-memory (Mark.equal e g h) = (w, v)
   mark-memory (Mark.unequal e g) = (w, v)
   mark-memory (Mark.idle e g h) = (w, v)
   mark-memory (Mark.busy e g h) = (w, v)
-  mark-memory (Mark.locks e g) = (rw g at (lock-kept m p w mine), rw g at (lock-ranged m p v))
+  mark-memory (Mark.locks e g) = locked g
   mark-memory (Mark.agrees e g) = (w, v)
   mark-memory (Mark.differs e g) = (w, v)
   mark-memory {q = q} (Mark.writes e g) =
-      (rw g at (write-kept m p w mine (record { store = store.Mark r (q .sense) }) is), rw g at (write-ranged m p v (record { store = store.Mark r (q .sense) }) (omega arith)))
-  mark-memory (Mark.wins e g h i) = (rw g at (unlock-kept m p w mine), rw g at (unlock-ranged m p v))
-  mark-memory (Mark.loses e g h i) = (rw g at (unlock-kept m p w mine), rw g at (unlock-ranged m p v))
+      let a = rw g at (write-kept m p w mine (record { store = store.Mark r (q .sense) }) is) in
+      (a, write-ranged p w a v (record { store = store.Mark r (q .sense) }) (omega arith) g)
+  mark-memory (Mark.wins e g h i) = unlocked g
+  mark-memory (Mark.loses e g h i) = unlocked g

@@ -11,6 +11,7 @@ use Rattle.buffers.specs.declared.Store.the-variants as store
 use Rattle.buffers.specs.declared.Entry.{Entry}
 use Rattle.buffers.specs.Fits.{IsCell}
 use Rattle.memory.specs.Looks.{lookFieldOf}
+use Rattle.sound.specs.WellFormed as sound
 use Rattle.sound.proofs.Kept.{write-kept, allocate-kept}
 use Rattle.state.specs.declared.Handshake.{Handshake}
 use Rattle.state.specs.declared.Kind.{Kind}
@@ -59,7 +60,7 @@ module _ (s : State) (c : Choice) (p : ℕ) (q : Process) (w : WellFormed s) (po
 
   -- the value that a look of a field sees
   seen : {v : ℕ} (x i : ℕ) → lookFieldOf (s .memory) p x i ≡ seesValue v → v ≤ s .memory .cells
-  seen {v} x i e = seen-value (s .memory) p x i v (ranged s w) e
+  seen {v} x i e = seen-value (ranged s w) p x i v e
 
   -- a root is a cell
   rooted : (x : ℕ) → Member (q .roots) x → IsCell (s .memory .cells) x
@@ -87,7 +88,8 @@ module _ (s : State) (c : Choice) (p : ℕ) (q : Process) (w : WellFormed s) (po
   pub mutator-kept : {t : State} → Mutator s c p q t → WellFormed t
   mutator-kept (Mutator.allocates a o x l g y {m = m} e) =
       let is : IsCell (s .memory .cells) (c .x) = (x, l) in
-      moved s w m (rw e at (allocate-kept (s .memory) p (w .memory) here (c .x) is)) (rw e at (allocate-ranged (s .memory) p (ranged s w) (c .x))) p _ mine
+      let k : sound.WellFormed m = rw e at (allocate-kept (s .memory) p (w .memory) here (c .x) is) in
+      moved s w m k (allocate-ranged p (w .memory) k (ranged s w) (c .x) is e) p _ mine
       (mutates pos (lists (q .work) _ f (f .work) (below-add (q .roots) (c .x) (s .memory .cells) l (f .roots))))
   mutator-kept (Mutator.drops a o m g y) = goes _ (lists (q .work) _ f (f .work) (below-remove (q .roots) (c .x) (s .memory .cells) (f .roots)))
   mutator-kept (Mutator.reads a o m g y {v = v} e h) = goes _ (lists (q .work) _ f (f .work) (below-add (q .roots) v (s .memory .cells) (seen (c .x) (c .f) e) (f .roots)))
@@ -124,7 +126,8 @@ module _ (s : State) (c : Choice) (p : ℕ) (q : Process) (w : WellFormed s) (po
   mutator-kept (Mutator.writes a b {m = m} e) =
       let k = write-at (a .place) f in
       let v : Entry = record { store = store.Field (q .x) (q .f) (q .y) } in
-      moved s w m (rw e at (write-kept (s .memory) p (w .memory) here v (k .notes .is-x, k .notes .is-f))) (rw e at (write-ranged (s .memory) p (ranged s w) v (k .notes .is-y))) p _ mine
+      let u : sound.WellFormed m = rw e at (write-kept (s .memory) p (w .memory) here v (k .notes .is-x, k .notes .is-f)) in
+      moved s w m u (write-ranged p (w .memory) u (ranged s w) v (k .notes .is-y) e) p _ mine
       (mutates pos
       (record {
         roots = f .roots;

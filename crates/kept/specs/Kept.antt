@@ -27,11 +27,7 @@ pub record Ranged (k j : ℕ) (m : Memory) : Type 0 where
   pub fields : (c f : ℕ) → fieldOf m c f ≤ k
   pub pending : (p i : ℕ) → valueOf (entryOf (bufferOf m p) i .store) ≤ k
 
--- the memory n has the counts of m; and the same cells are occupied
+-- the memory n has the counts of m
 pub record Counted (m n : Memory) : Type 0 where
   pub cells : n .cells ≡ m .cells
   pub processes : n .processes ≡ m .processes
-
-pub record Settled (m n : Memory) : Type 0 where
-  pub counts : Counted m n
-  pub used : n .used ≡ m .used

@@ -1,9 +1,11 @@
 -- What a commit leaves in memory, by the kind of store. Occupied cells, lock and counts stay, and so does every part that is not named (Committed, Alike). Assumes nothing.
 --     mark-committed, field-committed, sense-committed, alloc-sense-committed, phase-committed     memory is alike to the one with that part replaced
 --     mark-here, marks-elsewhere        the mark of that cell alone
+--     committed-field                   each field is as before, or has the value of the store
 --     field-here, fields-elsewhere      that field of that cell alone
 use mathlib.Core.Path.{_≡_, refl, sym, _∙_, ap}
 use mathlib.Core.Bool.{Bool, false}
+use mathlib.Core.Logic.{_⊎_}
 use Prim.Native.Nat.{ℕ, _≤_}
 use native.Mathlib.Omega.{arith}
 use Rattle.cells.proofs.Members.{member-pos}
@@ -15,7 +17,7 @@ use Rattle.buffers.proofs.Hits.{hits-own, hits-other}
 use Rattle.memory.specs.declared.Memory.{Memory}
 use Rattle.memory.specs.Memories.{markOf, fieldOf, putMarkOf, putFieldOf, withSense, withAllocSense, withPhase, thereOf, heldOf, appliedOf}
 use Rattle.memory.proofs.Shapes.{Shaped}
-use Rattle.memory.proofs.Spots.{lastField, Alike, cell-same, cell-other, held-field}
+use Rattle.memory.proofs.Spots.{lastField, Alike, cell-same, cell-other, held-field, field-same, applied-field}
 use Rattle.memory.proofs.Effects.{Committed, committed-held}
 
 module _ {m : Memory} {p : ℕ} {n : Memory} (w : Committed m p n) where
@@ -47,6 +49,9 @@ module _ {m : Memory} {p : ℕ} {n : Memory} (w : Committed m p n) where
   mark-here {c} {b} z e =
       let t = rw e at (w .there) in
       rw (mark-committed e .marks) (cell-same (m .marks) false b c (member-pos (m .used) c t) (omega (arith, z .marks, z .within c t)))
+
+  pub committed-field : (d g : ℕ) → (fieldOf n d g ≡ fieldOf m d g) ⊎ (fieldOf n d g ≡ valueOf (w .oldest .store))
+  committed-field d g = rw (field-same (appliedOf m (w .oldest .store)) n d g (w .alike)) (applied-field m (w .oldest .store) d g)
 
   held-value : (k : Memory) (c f : ℕ) → valueOf (heldOf k (spot.Field c f)) ≡ fieldOf k c f
   held-value k c f = rw (held-field k c f) refl

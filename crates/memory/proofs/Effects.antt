@@ -5,6 +5,8 @@
 --     fence-taken                       Fenced: nothing was pending, and nothing changes
 --     lock-taken, unlock-taken          Locked, Unlocked: the lock alone changes (Relocked)
 --     allocate-taken, free-taken        Allocated, Freed: one cell alone changes (Reset)
+--     write-settled, commit-settled, lock-settled, unlock-settled     of any memory, shaped or not: the counts and the occupied cells stay
+--     allocate-used, free-used, allocate-counts, free-counts          .. the occupied cells change by one, and the counts stay
 --     committed-held                    after a commit its store is held at its spot, and every other spot is as before; Commits has it by the kind of store
 use mathlib.Core.Path.{_≡_, refl, sym, _∙_, ap}
 use mathlib.Core.Bool.{Bool, true, false}
@@ -16,6 +18,7 @@ use lib.Dec.{eqb, leb}
 use lib.ListN.{length}
 use borrow.Author.Tests.{leb-false, eqb-true, eqb-false}
 use Rattle.base.specs.Pick.{pick}
+use Rattle.base.proofs.Picking.{picked}
 use Rattle.cells.specs.Sets.{memberOf, addOf, removeOf}
 use Rattle.cells.proofs.Members.{add-same, add-keeps, in-add, remove-gone, in-remove, remove-keeps}
 use Rattle.cells.proofs.Bools.{same-test}
@@ -30,9 +33,10 @@ use Rattle.buffers.specs.Buffers.{maxStores, pushOf, popOf}
 use Rattle.buffers.proofs.Fifos.{push-room, push-last, pop-oldest}
 use Rattle.memory.specs.declared.Memory.{Memory}
 use Rattle.memory.specs.declared.Done.{Done}
-use Rattle.memory.specs.Memories.{maxCells, maxProcesses, asTaken, taken, refused, withUsed, withMarks, withField0, withField1, withLock, putCell, usedOf, markOf, fieldOf, bufferOf, withBuffer, pendingLenOf, blockedOf, thereOf, heldOf, appliedOf}
+use Rattle.memory.specs.Memories.{maxCells, maxProcesses, asTaken, taken, refused, withUsed, withMarks, withField0, withField1, withLock, putCell, usedOf, markOf, fieldOf, bufferOf, withBuffer, pendingLenOf, blockedOf, thereOf, heldOf, appliedOf, allocatedOf, freedOf}
 use Rattle.memory.specs.Steps.{writeOf, commitOf, fenceOf, lockOf, unlockOf, allocateOf, freeOf}
-use Rattle.memory.proofs.Shapes.{Shaped, pendingFor, pending-empty, pending-absent, there-or-not, buffer-same, buffer-other}
+use Rattle.memory.specs.Views.{pendingFor}
+use Rattle.memory.proofs.Shapes.{Shaped, pending-empty, pending-absent, there-or-not, buffer-same, buffer-other}
 use Rattle.memory.proofs.Spots.{Plain, Alike, Settled, cell-same, cell-other, held-same, held-applied, applied-settled, applied-lock, applied-buffers}
 
 -- ---- answers
@@ -53,6 +57,41 @@ not-second : {A : Type 0} (t : Bool) {x y r : A} → (y ≡ r → ⊥) → pick 
 not-second true n h = (refl, h)
 not-second false n h = absurd (n h)
 
+left : {m n : Memory} → taken m ≡ taken n → m ≡ n
+left e = ap (λ (d : Done). d .memory) e
+
+-- ---- the tests that a step passed which is taken, and the memory that it left
+module _ (m : Memory) (p : ℕ) {n : Memory} where
+  write-went : (e : Entry) → writeOf m p e ≡ taken n → (p < maxProcesses) × (pushOf (bufferOf m p) e .taken ≡ true) × (withBuffer m p (pushOf (bufferOf m p) e .buffer) ≡ n)
+  unfolding writeOf
+  write-went e h =
+      let a = not-first (leb maxProcesses p) (no-taken (λ x. omega arith)) h in
+      let b = not-second (pushOf (bufferOf m p) e .taken) (no-taken (λ x. omega arith)) (a .1) in
+      (leb-false maxProcesses p (a .0), b .0, left (b .1))
+
+  unlock-went : unlockOf m p ≡ taken n → (pendingLenOf m p ≡ 0) × (withLock m 0 ≡ n)
+  unfolding unlockOf
+  unlock-went h = let a = not-second (eqb (pendingLenOf m p) 0) (no-taken (λ x. omega arith)) h in (eqb-true (pendingLenOf m p) 0 (a .0), left (a .1))
+
+  allocate-went : (c : ℕ) → allocateOf m p c ≡ taken n → (blockedOf m p ≡ false) × (usedOf m c ≡ false) × (allocatedOf m c ≡ n)
+  unfolding allocateOf
+  allocate-went c h =
+      let a = not-first (blockedOf m p) (no-taken (λ x. omega arith)) h in
+      let b = not-first (usedOf m c) (no-taken (λ x. omega arith)) (a .1) in
+      (a .0, b .0, left (b .1))
+
+  free-went : (c : ℕ) → freeOf m p c ≡ taken n → (blockedOf m p ≡ false) × (freedOf m c ≡ n)
+  unfolding freeOf
+  free-went c h = let a = not-first (blockedOf m p) (no-taken (λ x. omega arith)) h in (a .0, left (a .1))
+
+  commit-went : commitOf m p ≡ taken n → (pendingLenOf m p ≡ 0 → ⊥) × (blockedOf m p ≡ false) × (thereOf m (spotOf (popOf (bufferOf m p) .entry .store)) ≡ true) × (appliedOf (withBuffer m p (popOf (bufferOf m p) .buffer)) (popOf (bufferOf m p) .entry .store) ≡ n)
+  unfolding commitOf
+  commit-went h =
+      let a = not-first (eqb (pendingLenOf m p) 0) (no-taken (λ x. omega arith)) h in
+      let b = not-first (blockedOf m p) (no-taken (λ x. omega arith)) (a .1) in
+      let c = not-second (thereOf m (spotOf (popOf (bufferOf m p) .entry .store))) (no-taken (λ x. omega arith)) (b .1) in
+      (eqb-false (pendingLenOf m p) 0 (a .0), b .0, c .0, left (c .1))
+
 -- ---- write
 pub record Written (m : Memory) (p : ℕ) (e : Entry) (n : Memory) : Type 0 where
   pub process : p < maxProcesses
@@ -67,17 +106,16 @@ buffered : (m : Memory) (p : ℕ) (b : Buffer) → Alike m (withBuffer m p b)
 buffered m p b = record { marks = refl; field0 = refl; field1 = refl; fm = refl; fa = refl; phase = refl }
 
 pub write-taken : {m : Memory} (p : ℕ) (e : Entry) {n : Memory} → Shaped m → writeOf m p e ≡ taken n → Written m p e n
-unfolding writeOf pendingFor
+unfolding pendingFor
 write-taken {m} p e {n} z h =
-    let a = not-first (leb maxProcesses p) (no-taken (λ x. omega arith)) h in
-    let b = not-second (pushOf (bufferOf m p) e .taken) (no-taken (λ x. omega arith)) (a .1) in
-    let l = leb-false maxProcesses p (a .0) in
-    let q = ap (λ (d : Done). d .memory) (b .1) in
-    rw (← q)
+    let a = write-went m p e h in
+    let l = a .0 in
+    let b = a .1 in
+    rw (← a .2)
     (record {
       process = l;
-      room = push-room (bufferOf m p) e (z .sized p l) .0 (b .0);
-      own = rw (buffer-same m z p (pushOf (bufferOf m p) e .buffer) l) (push-last (bufferOf m p) e (z .sized p l) (b .0));
+      room = push-room (bufferOf m p) e (z .sized p l) .0 b;
+      own = rw (buffer-same m z p (pushOf (bufferOf m p) e .buffer) l) (push-last (bufferOf m p) e (z .sized p l) b);
       others = λ k ne. rw (buffer-other m p k (pushOf (bufferOf m p) e .buffer) ne);
       lock = refl;
       alike = buffered m p (pushOf (bufferOf m p) e .buffer);
@@ -93,7 +131,7 @@ pub fence-taken : {m : Memory} (p : ℕ) {n : Memory} → Shaped m → fenceOf m
 unfolding fenceOf
 fence-taken {m} p {n} z h =
     let a = not-second (eqb (pendingLenOf m p) 0) (no-taken (λ x. omega arith)) h in
-    record { empty = pending-empty m z p .0 (eqb-true (pendingLenOf m p) 0 (a .0)); same = sym (ap (λ (d : Done). d .memory) (a .1)) }
+    record { empty = pending-empty m z p .0 (eqb-true (pendingLenOf m p) 0 (a .0)); same = sym (left (a .1)) }
 
 -- the lock alone has changed
 pub record Relocked (m : Memory) (k : ℕ) (n : Memory) : Type 0 where
@@ -102,10 +140,9 @@ pub record Relocked (m : Memory) (k : ℕ) (n : Memory) : Type 0 where
   pub alike : Alike m n
   pub settled : Settled m n
 
-relocked : {m : Memory} (k : ℕ) {n : Memory} → taken (withLock m k) ≡ taken n → Relocked m k n
+relocked : {m : Memory} (k : ℕ) {n : Memory} → withLock m k ≡ n → Relocked m k n
 unfolding pendingFor
-relocked {m} k {n} h =
-    let q = ap (λ (d : Done). d .memory) h in
+relocked {m} k {n} q =
     rw (← q)
     (record {
       lock = refl;
@@ -122,17 +159,14 @@ pub lock-taken : {m : Memory} (p : ℕ) {n : Memory} → lockOf m p ≡ taken n 
 unfolding lockOf
 lock-taken {m} p {n} h =
     let a = not-second (eqb (m .lock) 0) (no-taken (λ x. omega arith)) h in
-    record { free = eqb-true (m .lock) 0 (a .0); after = relocked (p + 1) (a .1) }
+    record { free = eqb-true (m .lock) 0 (a .0); after = relocked (p + 1) (left (a .1)) }
 
 pub record Unlocked (m : Memory) (p : ℕ) (n : Memory) : Type 0 where
   pub empty : pendingFor m p ≡ []
   pub after : Relocked m 0 n
 
 pub unlock-taken : {m : Memory} (p : ℕ) {n : Memory} → Shaped m → unlockOf m p ≡ taken n → Unlocked m p n
-unfolding unlockOf
-unlock-taken {m} p {n} z h =
-    let a = not-second (eqb (pendingLenOf m p) 0) (no-taken (λ x. omega arith)) h in
-    record { empty = pending-empty m z p .0 (eqb-true (pendingLenOf m p) 0 (a .0)); after = relocked 0 (a .1) }
+unlock-taken {m} p {n} z h = let a = unlock-went m p h in record { empty = pending-empty m z p .0 (a .0); after = relocked 0 (a .1) }
 
 -- ---- allocate, free: one cell is occupied or free from now on, with mark b and null fields
 pub record Reset (m : Memory) (c : ℕ) (u b : Bool) (n : Memory) : Type 0 where
@@ -150,10 +184,6 @@ pub record Reset (m : Memory) (c : ℕ) (u b : Bool) (n : Memory) : Type 0 where
   pub processes : n .processes ≡ m .processes
   pub pending : (q : ℕ) → pendingFor n q ≡ pendingFor m q
 
-both-same : {A : Type 0} (t : Bool) {x y v : A} → x ≡ v → y ≡ v → pick t x y ≡ v
-both-same true e f = e
-both-same false e f = f
-
 module _ (m : Memory) (z : Shaped m) (c : ℕ) (pos : 0 < c) (l : c ≤ maxCells) where
   reset : (k : ℕ) (u b : Bool) → memberOf k c ≡ u → ((d : ℕ) → (d ≡ c → ⊥) → memberOf k d ≡ usedOf m d) → Reset m c u b (withField1 (withField0 (withMarks (withUsed m k) (putCell (m .marks) c b)) (putCell (m .field0) c 0)) (putCell (m .field1) c 0))
   unfolding pendingFor
@@ -163,7 +193,7 @@ module _ (m : Memory) (z : Shaped m) (c : ℕ) (pos : 0 < c) (l : c ≤ maxCells
         used-others = f;
         mark = cell-same (m .marks) false b c pos (omega (arith, z .marks));
         marks-others = λ d ne. cell-other (m .marks) false b c d ne;
-        fields = λ g. both-same (eqb g 0) (cell-same (m .field0) 0 0 c pos (omega (arith, z .field0))) (cell-same (m .field1) 0 0 c pos (omega (arith, z .field1)));
+        fields = λ g. picked (λ v. v ≡ 0) (eqb g 0) (cell-same (m .field0) 0 0 c pos (omega (arith, z .field0))) (cell-same (m .field1) 0 0 c pos (omega (arith, z .field1)));
         fields-others = λ d g ne. rw (cell-other (m .field0) 0 0 c d ne, cell-other (m .field1) 0 0 c d ne);
         fm = refl;
         fa = refl;
@@ -193,17 +223,14 @@ pub record Freed (m : Memory) (p c : ℕ) (n : Memory) : Type 0 where
 
 module _ {m : Memory} (p c : ℕ) {n : Memory} (z : Shaped m) (pos : 0 < c) (l : c ≤ maxCells) where
   pub allocate-taken : allocateOf m p c ≡ taken n → Allocated m p c n
-  unfolding allocateOf
   allocate-taken h =
-      let a = not-first (blockedOf m p) (no-taken (λ x. omega arith)) h in
-      let b = not-first (usedOf m c) (no-taken (λ x. omega arith)) (a .1) in
-      rw (← ap (λ (d : Done). d .memory) (b .1)) (record { unblocked = a .0; free = b .0; used = refl; after = reset m z c pos l (addOf (m .used) c) true (m .fa) (add-same (m .used) c pos (omega arith)) (others-added m z c pos l) })
+      let a = allocate-went m p c h in
+      rw (← a .2) (record { unblocked = a .0; free = a .1; used = refl; after = reset m z c pos l (addOf (m .used) c) true (m .fa) (add-same (m .used) c pos (omega arith)) (others-added m z c pos l) })
 
   pub free-taken : freeOf m p c ≡ taken n → Freed m p c n
-  unfolding freeOf
   free-taken h =
-      let a = not-first (blockedOf m p) (no-taken (λ x. omega arith)) h in
-      rw (← ap (λ (d : Done). d .memory) (a .1)) (record { unblocked = a .0; used = refl; after = reset m z c pos l (removeOf (m .used) c) false false (remove-gone (m .used) c) (others-removed m z c pos l) })
+      let a = free-went m p c h in
+      rw (← a .1) (record { unblocked = a .0; used = refl; after = reset m z c pos l (removeOf (m .used) c) false false (remove-gone (m .used) c) (others-removed m z c pos l) })
 
 -- ---- commit
 pub record Committed (m : Memory) (p : ℕ) (n : Memory) : Type 0 where
@@ -250,12 +277,9 @@ module _ {m : Memory} (p : ℕ) {n : Memory} (z : Shaped m) where
       }
 
   pub commit-taken : commitOf m p ≡ taken n → Committed m p n
-  unfolding commitOf
   commit-taken h =
-      let a = not-first (eqb (pendingLenOf m p) 0) (no-taken (λ x. omega arith)) h in
-      let b = not-first (blockedOf m p) (no-taken (λ x. omega arith)) (a .1) in
-      let c = not-second (thereOf m (spotOf (popOf (bufferOf m p) .entry .store))) (no-taken (λ x. omega arith)) (b .1) in
-      go (pendingFor m p) refl (λ e. eqb-false (pendingLenOf m p) 0 (a .0) (pending-empty m z p .1 e)) (b .0) (c .0) (ap (λ (d : Done). d .memory) (c .1))
+      let a = commit-went m p h in
+      go (pendingFor m p) refl (λ e. a .0 (pending-empty m z p .1 e)) (a .1) (a .2) (a .3)
     where
       go : (l : List Entry) → pendingFor m p ≡ l → (pendingFor m p ≡ [] → ⊥) → blockedOf m p ≡ false → thereOf m (spotOf (popOf (bufferOf m p) .entry .store)) ≡ true → appliedOf (withBuffer m p (popOf (bufferOf m p) .buffer)) (popOf (bufferOf m p) .entry .store) ≡ n → Committed m p n
       go [] e ne u t q = absurd (ne e)
@@ -264,3 +288,32 @@ module _ {m : Memory} (p : ℕ) {n : Memory} (z : Shaped m) where
 module _ {m : Memory} {p : ℕ} {n : Memory} (z : Shaped m) (w : Committed m p n) where
   pub committed-held : (at : Spot) → Plain (spotOf (w .oldest .store)) → Plain at → heldOf n at ≡ pick (hitsOf at (w .oldest .store)) (w .oldest .store) (heldOf m at)
   committed-held at j i = held-same (appliedOf m (w .oldest .store)) n at (w .alike) ∙ held-applied m z (w .oldest .store) at (w .there) j i
+
+-- ---- of any memory: "Allocation and freeing act on memory at once", and no other step changes which cells are occupied; no step changes N and M
+module _ (m : Memory) (p : ℕ) {n : Memory} where
+  pub write-settled : (e : Entry) → writeOf m p e ≡ taken n → Settled m n
+  write-settled e h = rw (← write-went m p e h .2) (record { cells = refl; processes = refl; used = refl })
+
+  pub commit-settled : commitOf m p ≡ taken n → Settled m n
+  commit-settled h =
+      let b = popOf (bufferOf m p) in
+      let w = applied-settled (withBuffer m p (b .buffer)) (b .entry .store) in
+      rw (← commit-went m p h .3) (record { cells = w .cells; processes = w .processes; used = w .used })
+
+  pub lock-settled : lockOf m p ≡ taken n → Settled m n
+  lock-settled h = lock-taken p h .after .settled
+
+  pub unlock-settled : unlockOf m p ≡ taken n → Settled m n
+  unlock-settled h = relocked 0 (unlock-went m p h .1) .settled
+
+  pub allocate-used : (c : ℕ) → allocateOf m p c ≡ taken n → n .used ≡ addOf (m .used) c
+  allocate-used c h = rw (← allocate-went m p c h .2) refl
+
+  pub free-used : (c : ℕ) → freeOf m p c ≡ taken n → n .used ≡ removeOf (m .used) c
+  free-used c h = rw (← free-went m p c h .1) refl
+
+  pub allocate-counts : (c : ℕ) → allocateOf m p c ≡ taken n → (n .cells ≡ m .cells) × (n .processes ≡ m .processes)
+  allocate-counts c h = rw (← allocate-went m p c h .2) (refl, refl)
+
+  pub free-counts : (c : ℕ) → freeOf m p c ≡ taken n → (n .cells ≡ m .cells) × (n .processes ≡ m .processes)
+  free-counts c h = rw (← free-went m p c h .1) (refl, refl)

@@ -1,18 +1,19 @@
 -- Every step keeps memory shaped. Assumes nothing.
 --     write-shaped, commit-shaped, fence-shaped, lock-shaped, unlock-shaped, allocate-shaped, free-shaped     taken or refused; an allocation, of a cell within the arrays
+--     put-length                   a cell put leaves an array its length
 --     shaped-like                  so is a memory with the same arrays and occupied cells
 --     shaped-buffer, shaped-applied, shaped-lock, shaped-allocated, shaped-freed     so are the memories that the steps are made of
 use mathlib.Core.Path.{_≡_, refl, _∙_, ap}
-use mathlib.Core.Bool.{Bool, true, false}
+use mathlib.Core.Bool.{false}
 use mathlib.Core.Logic.{⊎-elim}
 use mathlib.Core.List.{List}
 use Prim.Native.Nat.{ℕ, _-_, _+_, _≤_, _<_}
 use native.Mathlib.Omega.{arith}
 use native.Mathlib.Decide.{ℕ-discrete}
 use lib.Dec.{eqb, leb}
-use lib.ListN.{length, set, length-set}
+use lib.ListN.{length, length-set}
 use borrow.Author.Tests.{le-leb, eq-eqb}
-use Rattle.base.specs.Pick.{pick}
+use Rattle.base.proofs.Picking.{picked}
 use Rattle.cells.proofs.Members.{in-add, in-remove}
 use Rattle.buffers.specs.declared.Store.{Store}
 use Rattle.buffers.specs.declared.Store.the-variants as store
@@ -23,24 +24,16 @@ use Rattle.buffers.specs.Buffers.{pushOf, popOf}
 use Rattle.buffers.proofs.Fifos.{Sized, push-sized, pop-sized}
 use Rattle.memory.specs.declared.Memory.{Memory}
 use Rattle.memory.specs.declared.Done.{Done}
-use Rattle.memory.specs.Memories.{maxCells, maxProcesses, byProcess, byNonePending, byBlocked, byPending, byFull, byOccupied, byFree, taken, refused, withSense, withAllocSense, withPhase, withLock, putCell, usedOf, bufferOf, withBuffer, pendingLenOf, blockedOf, thereOf, appliedOf, allocatedOf, freedOf}
+use Rattle.memory.specs.Memories.{maxCells, maxProcesses, withSense, withAllocSense, withPhase, withLock, putCell, usedOf, bufferOf, withBuffer, pendingLenOf, blockedOf, thereOf, appliedOf, allocatedOf, freedOf}
 use Rattle.memory.specs.Steps.{writeOf, commitOf, fenceOf, lockOf, unlockOf, allocateOf, freeOf}
 use Rattle.memory.proofs.Shapes.{Shaped, buffer-same, buffer-other, there-or-not, buffer-absent}
 
-put-length : {A : Type 0} (l : List A) (c : ℕ) (v : A) → length (putCell l c v) ≡ length l
-put-length l c v = go (eqb c 0)
-  where
-    go : (t : Bool) → length (pick t l (set l (c - 1) v)) ≡ length l
-    go true = refl
-    go false = length-set l (c - 1) v
+pub put-length : {A : Type 0} (l : List A) (c : ℕ) (v : A) → length (putCell l c v) ≡ length l
+put-length {A} l c v = picked (λ (k : List A). length k ≡ length l) (eqb c 0) refl (length-set l (c - 1) v)
 
-pick-length : {A : Type 0} (t : Bool) (l k : List A) (n : ℕ) → length l ≡ n → length k ≡ n → length (pick t l k) ≡ n
-pick-length true l k n e f = e
-pick-length false l k n e f = f
-
-shaped-pick : (t : Bool) (x y : Done) → Shaped (x .memory) → Shaped (y .memory) → Shaped (pick t x y .memory)
-shaped-pick true x y e f = e
-shaped-pick false x y e f = f
+-- an answer hands back a memory that is shaped
+abbrev Kept : Done → Type 0
+Kept d = Shaped (d .memory)
 
 pub shaped-like : (m n : Memory) → Shaped m → n .marks ≡ m .marks → n .field0 ≡ m .field0 → n .field1 ≡ m .field1 → n .buffers ≡ m .buffers → n .used ≡ m .used → Shaped n
 shaped-like m n z a b c d e =
@@ -70,8 +63,8 @@ module _ (m : Memory) (z : Shaped m) where
   shaped-applied (store.Field c f v) =
       record {
         marks = z .marks;
-        field0 = pick-length (eqb f 0) (putCell (m .field0) c v) (m .field0) maxCells (put-length (m .field0) c v ∙ z .field0) (z .field0);
-        field1 = pick-length (eqb f 0) (m .field1) (putCell (m .field1) c v) maxCells (z .field1) (put-length (m .field1) c v ∙ z .field1);
+        field0 = picked (λ (l : List ℕ). length l ≡ maxCells) (eqb f 0) (put-length (m .field0) c v ∙ z .field0) (z .field0);
+        field1 = picked (λ (l : List ℕ). length l ≡ maxCells) (eqb f 0) (z .field1) (put-length (m .field1) c v ∙ z .field1);
         buffers = z .buffers;
         sized = z .sized;
         within = z .within;
@@ -113,7 +106,7 @@ module _ (m : Memory) (z : Shaped m) where
   unfolding writeOf
   write-shaped p e =
       ⊎-elim
-      (λ l. shaped-pick (leb maxProcesses p) (refused byProcess m) _ z (shaped-pick (pushOf (bufferOf m p) e .taken) _ (refused byFull m) (shaped-buffer m z p (pushOf (bufferOf m p) e .buffer) (push-sized (bufferOf m p) e (z .sized p l))) z))
+      (λ l. picked Kept (leb maxProcesses p) z (picked Kept (pushOf (bufferOf m p) e .taken) (shaped-buffer m z p (pushOf (bufferOf m p) e .buffer) (push-sized (bufferOf m p) e (z .sized p l))) z))
       (λ l. rw (le-leb maxProcesses p l) z)
       (there-or-not p)
 
@@ -124,29 +117,29 @@ module _ (m : Memory) (z : Shaped m) where
       there : p < maxProcesses → Shaped (commitOf m p .memory)
       there l =
           let b = popOf (bufferOf m p) in
-          shaped-pick (eqb (pendingLenOf m p) 0) (refused byNonePending m) _ z
-          (shaped-pick (blockedOf m p) (refused byBlocked m) _ z
-          (shaped-pick (thereOf m (spotOf (b .entry .store))) _ (refused byFree m) (shaped-apply p l) z))
+          picked Kept (eqb (pendingLenOf m p) 0) z
+          (picked Kept (blockedOf m p) z
+          (picked Kept (thereOf m (spotOf (b .entry .store))) (shaped-apply p l) z))
 
       absent : maxProcesses ≤ p → Shaped (commitOf m p .memory)
       absent l = rw (eq-eqb (pendingLenOf m p) 0 (ap (λ (b : Buffer). b .len) (buffer-absent m z p l))) z
 
   pub fence-shaped : (p : ℕ) → Shaped (fenceOf m p .memory)
   unfolding fenceOf
-  fence-shaped p = shaped-pick (eqb (pendingLenOf m p) 0) (taken m) (refused byPending m) z z
+  fence-shaped p = picked Kept (eqb (pendingLenOf m p) 0) z z
 
   pub lock-shaped : (p : ℕ) → Shaped (lockOf m p .memory)
   unfolding lockOf
-  lock-shaped p = shaped-pick (eqb (m .lock) 0) (taken (withLock m (p + 1))) (refused byBlocked m) (shaped-lock m z (p + 1)) z
+  lock-shaped p = picked Kept (eqb (m .lock) 0) (shaped-lock m z (p + 1)) z
 
   pub unlock-shaped : (p : ℕ) → Shaped (unlockOf m p .memory)
   unfolding unlockOf
-  unlock-shaped p = shaped-pick (eqb (pendingLenOf m p) 0) (taken (withLock m 0)) (refused byPending m) (shaped-lock m z 0) z
+  unlock-shaped p = picked Kept (eqb (pendingLenOf m p) 0) (shaped-lock m z 0) z
 
   pub allocate-shaped : (p c : ℕ) → c ≤ maxCells → Shaped (allocateOf m p c .memory)
   unfolding allocateOf
-  allocate-shaped p c l = shaped-pick (blockedOf m p) (refused byBlocked m) _ z (shaped-pick (usedOf m c) (refused byOccupied m) (taken (allocatedOf m c)) z (shaped-allocated m z c l))
+  allocate-shaped p c l = picked Kept (blockedOf m p) z (picked Kept (usedOf m c) z (shaped-allocated m z c l))
 
   pub free-shaped : (p c : ℕ) → Shaped (freeOf m p c .memory)
   unfolding freeOf
-  free-shaped p c = shaped-pick (blockedOf m p) (refused byBlocked m) (taken (freedOf m c)) z (shaped-freed m z c)
+  free-shaped p c = picked Kept (blockedOf m p) z (shaped-freed m z c)

@@ -13,6 +13,7 @@ use lib.Dec.{eqb, leb}
 use lib.ListN.{length}
 use borrow.Author.Tests.{leb-true, leb-false, le-leb, lt-leb, eqb-true, eqb-false, eq-eqb, ne-eqb}
 use Rattle.base.specs.Pick.{pick}
+use Rattle.base.proofs.Picking.{picked}
 use Rattle.buffers.specs.declared.Store.{Store}
 use Rattle.buffers.specs.declared.Entry.{Entry}
 use Rattle.buffers.specs.Stores.{spotOf}
@@ -22,7 +23,8 @@ use Rattle.memory.specs.declared.Memory.{Memory}
 use Rattle.memory.specs.declared.Done.{Done}
 use Rattle.memory.specs.Memories.{maxProcesses, asTaken, byProcess, byNonePending, byBlocked, byPending, byFull, byOccupied, byFree, taken, refused, withLock, usedOf, bufferOf, withBuffer, pendingLenOf, blockedOf, thereOf, appliedOf, allocatedOf, freedOf}
 use Rattle.memory.specs.Steps.{writeOf, commitOf, fenceOf, lockOf, unlockOf, allocateOf, freeOf}
-use Rattle.memory.proofs.Shapes.{Shaped, pendingFor, oldestOf, pending-is, pending-empty, pending-absent, there-or-not}
+use Rattle.memory.specs.Views.{pendingFor}
+use Rattle.memory.proofs.Shapes.{Shaped, oldestOf, pending-is, pending-empty, pending-absent, there-or-not}
 use Rattle.memory.proofs.Effects.{is-taken}
 use Rattle.memory.proofs.Chains.{Decides, itself, One, Two, Three, one, two, three}
 
@@ -113,10 +115,6 @@ module _ (m : Memory) (p : ℕ) where
 abbrev Honest : Memory → Done → Type 0
 Honest m d = (d .no ≡ asTaken → ⊥) → d .memory ≡ m
 
-honest-pick : {m : Memory} (t : Bool) (x y : Done) → Honest m x → Honest m y → Honest m (pick t x y)
-honest-pick true x y e f = e
-honest-pick false x y e f = f
-
 module _ (m : Memory) (p : ℕ) where
   back : (k : ℕ) → Honest m (refused k m)
   back k = λ h. refl
@@ -126,39 +124,35 @@ module _ (m : Memory) (p : ℕ) where
 
   pub write-same : (e : Entry) → (writeOf m p e .no ≡ asTaken → ⊥) → writeOf m p e .memory ≡ m
   unfolding writeOf
-  write-same e = honest-pick (leb maxProcesses p) (refused byProcess m) _ (back byProcess) (honest-pick (pushOf (bufferOf m p) e .taken) _ (refused byFull m) (went _) (back byFull))
+  write-same e = picked (Honest m) (leb maxProcesses p) (back byProcess) (picked (Honest m) (pushOf (bufferOf m p) e .taken) (went _) (back byFull))
 
   pub commit-same : (commitOf m p .no ≡ asTaken → ⊥) → commitOf m p .memory ≡ m
   unfolding commitOf
   commit-same =
-      honest-pick (eqb (pendingLenOf m p) 0) (refused byNonePending m) _ (back byNonePending)
-      (honest-pick (blockedOf m p) (refused byBlocked m) _ (back byBlocked)
-      (honest-pick (thereOf m (spotOf (popOf (bufferOf m p) .entry .store))) _ (refused byFree m) (went _) (back byFree)))
+      picked (Honest m) (eqb (pendingLenOf m p) 0) (back byNonePending)
+      (picked (Honest m) (blockedOf m p) (back byBlocked)
+      (picked (Honest m) (thereOf m (spotOf (popOf (bufferOf m p) .entry .store))) (went _) (back byFree)))
 
   -- taken or refused
   pub fence-same : fenceOf m p .memory ≡ m
   unfolding fenceOf
-  fence-same = go (eqb (pendingLenOf m p) 0)
-    where
-      go : (t : Bool) → pick {A = Done} t (taken m) (refused byPending m) .memory ≡ m
-      go true = refl
-      go false = refl
+  fence-same = picked (λ (d : Done). d .memory ≡ m) (eqb (pendingLenOf m p) 0) refl refl
 
   pub lock-same : (lockOf m p .no ≡ asTaken → ⊥) → lockOf m p .memory ≡ m
   unfolding lockOf
-  lock-same = honest-pick (eqb (m .lock) 0) (taken (withLock m (p + 1))) (refused byBlocked m) (went _) (back byBlocked)
+  lock-same = picked (Honest m) (eqb (m .lock) 0) (went _) (back byBlocked)
 
   pub unlock-same : (unlockOf m p .no ≡ asTaken → ⊥) → unlockOf m p .memory ≡ m
   unfolding unlockOf
-  unlock-same = honest-pick (eqb (pendingLenOf m p) 0) (taken (withLock m 0)) (refused byPending m) (went _) (back byPending)
+  unlock-same = picked (Honest m) (eqb (pendingLenOf m p) 0) (went _) (back byPending)
 
   pub allocate-same : (c : ℕ) → (allocateOf m p c .no ≡ asTaken → ⊥) → allocateOf m p c .memory ≡ m
   unfolding allocateOf
-  allocate-same c = honest-pick (blockedOf m p) (refused byBlocked m) _ (back byBlocked) (honest-pick (usedOf m c) (refused byOccupied m) (taken (allocatedOf m c)) (back byOccupied) (went _))
+  allocate-same c = picked (Honest m) (blockedOf m p) (back byBlocked) (picked (Honest m) (usedOf m c) (back byOccupied) (went _))
 
   pub free-same : (c : ℕ) → (freeOf m p c .no ≡ asTaken → ⊥) → freeOf m p c .memory ≡ m
   unfolding freeOf
-  free-same c = honest-pick (blockedOf m p) (refused byBlocked m) (taken (freedOf m c)) (back byBlocked) (went _)
+  free-same c = picked (Honest m) (blockedOf m p) (back byBlocked) (went _)
 
 -- ---- a step that is asked right is taken
 module _ (m : Memory) (p : ℕ) where

@@ -1,7 +1,6 @@
--- What every law of memory may take for granted, and the two names that the laws are said in: what a process has pending, and what it sees. Assumes nothing.
+-- What every law of memory may take for granted, and what a process has pending and sees. Assumes nothing.
 --     Shaped                       arrays have their lengths, buffers are sized, occupied cells are within the arrays
---     pendingFor, viewOf           the stores of a process as a list, oldest first; what it sees at a spot
---     pending-is, view-is          the two by the definitions of specs/
+--     pending-is, view-is          `pendingFor` and `viewOf` by the definitions of specs/
 --     oldestOf                     the store to be committed first
 --     there-or-not                 a process is one of those there can be, or it is not
 --     pending-absent               a process that is not there has nothing pending
@@ -9,6 +8,7 @@
 --     pending-empty                nothing is pending exactly if the count is 0
 --     pending-count                as many are pending as the count says
 --     view-own, view-memory, view-misses, view-empty     one sees the newest store of one's own to the spot; memory, without one
+--     view-from                    what is seen is a store of one's own list, or what memory holds
 --     view-spot                    what is seen at a spot is a store to that spot
 --     held-spot                    and so is what memory holds there
 --     buffer-absent, buffer-same, buffer-other     the buffer of a process that is not there; a buffer replaced is the only one that changes
@@ -28,14 +28,15 @@ use Rattle.buffers.specs.declared.Spot.{Spot}
 use Rattle.buffers.specs.declared.Spot.the-variants as spot
 use Rattle.buffers.specs.declared.Entry.{Entry}
 use Rattle.buffers.specs.declared.Buffer.{Buffer}
+use Rattle.buffers.specs.declared.Newest.{Newest}
 use Rattle.buffers.specs.declared.Newest.the-variants.{Nothing, Hit}
 use Rattle.buffers.specs.Stores.{noStore, spotOf, hitsOf}
 use Rattle.buffers.specs.Buffers.{maxStores, pendingOf, newestOf, storeOrOf}
 use Rattle.buffers.proofs.Fifos.{Sized, pending-length, pending-none}
-use Rattle.buffers.proofs.Newests.{newest-none, newest-spot}
+use Rattle.buffers.proofs.Newests.{newest-none, newest-member, newest-spot}
 use Rattle.memory.specs.declared.Memory.{Memory}
 use Rattle.memory.specs.Memories.{maxCells, maxProcesses, usedOf, noBuffer, bufferOf, withBuffer, pendingLenOf, heldOf}
-use Rattle.memory.specs.Looks.{seenOf}
+pub use Rattle.memory.specs.Views.{pendingFor, viewOf}
 
 pub record Shaped (m : Memory) : Type 0 where
   pub marks : length (m .marks) ≡ maxCells
@@ -44,12 +45,6 @@ pub record Shaped (m : Memory) : Type 0 where
   pub buffers : length (m .buffers) ≡ maxProcesses
   pub sized : (p : ℕ) → p < maxProcesses → Sized (bufferOf m p)
   pub within : (c : ℕ) → usedOf m c ≡ true → c ≤ maxCells
-
-unfoldable pub pendingFor : Memory → ℕ → List Entry
-pendingFor m p = pendingOf (bufferOf m p)
-
-unfoldable pub viewOf : Memory → ℕ → Spot → Store
-viewOf m p at = seenOf m p at
 
 abbrev pub oldestOf : List Entry → Store
 oldestOf [] = noStore
@@ -74,6 +69,14 @@ view-empty m p at h = view-memory m p at (rw h refl)
 
 pub view-own : (m : Memory) (p : ℕ) (at : Spot) (s : Store) → newestOf at (pendingFor m p) ≡ Hit s → viewOf m p at ≡ s
 view-own m p at s h = view-is m p at ∙ rw h
+
+-- "A read gives the newest matching store of the reader's own buffer, else memory": what holds of both holds of what is seen
+pub view-from : (P : Store → Type 0) (m : Memory) (p : ℕ) (at : Spot) → ((e : Entry) → List·Memᴰ e (pendingFor m p) → P (e .store)) → P (heldOf m at) → P (viewOf m p at)
+view-from P m p at own else = rw (view-is m p at) (go (newestOf at (pendingFor m p)) refl)
+  where
+    go : (n : Newest) → newestOf at (pendingFor m p) ≡ n → P (storeOrOf n (heldOf m at))
+    go Nothing e = else
+    go (Hit s) e = let w = newest-member at (pendingFor m p) s e in rw (← w .holds) (own (w .entry) (w .there))
 
 pub held-spot : (m : Memory) (at : Spot) → spotOf (heldOf m at) ≡ at
 unfolding heldOf

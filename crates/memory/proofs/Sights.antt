@@ -17,7 +17,7 @@ use Rattle.memory.specs.declared.Memory.{Memory}
 use Rattle.memory.specs.declared.Seen.{Seen}
 use Rattle.memory.specs.Memories.{asTaken, byBlocked, byFree, unseen, usedOf, blockedOf, thereOf}
 use Rattle.memory.specs.Looks.{seenOf, lookOf, seenBit, seenValue, seenPhase, lookMarkOf, lookFieldOf, lookSenseOf, lookPhaseOf, sweptOf, lookSweptOf}
-use Rattle.memory.proofs.Shapes.{viewOf}
+use Rattle.memory.specs.Views.{viewOf}
 use Rattle.memory.proofs.Spots.{there-mark, there-field, there-sense, there-phase}
 use Rattle.memory.proofs.Chains.{itself, One, Two, one, two}
 

@@ -3,18 +3,19 @@
 --     there-mark, there-field, there-sense, there-alloc-sense, there-phase     a spot of a cell is there while the cell is occupied, any other always
 --     there-used                          so where a spot is there is decided by the occupied cells
 --     held-mark, held-field, held-sense, held-alloc-sense, held-phase          memory's parts as what it holds at a spot
---     Alike, held-same                    marks, fields, senses and phase are the same, so the same is held everywhere
+--     Alike, held-same, field-same        marks, fields, senses and phase are the same, so the same is held everywhere
 --     Settled                             occupied cells and counts are the same
 --     held-applied                        a store applied is held at its own spot, and every other spot is as before
+--     applied-field                       so each field is as before, or has the value stored
 --     applied-settled, applied-lock, applied-buffers     a store changes neither the occupied cells nor the counts, the lock and the buffers
---     cell-same, cell-other, cell-put     one cell of an array is put
+--     cell-same, cell-other, cell-put, cell-either     one cell of an array is put
 use mathlib.Core.Path.{_≡_, refl, sym, _∙_, ap}
 use mathlib.Core.Bool.{Bool, true, false}
 use mathlib.Core.Logic.{_⊎_, inl, inr, by-cases}
 use mathlib.Core.List.{List}
 use Prim.Native.Nat.{ℕ, zero, suc, _-_, _≤_, _<_}
 use native.Mathlib.Omega.{arith}
-use native.Mathlib.Decide.{ℕ-discrete}
+use native.Mathlib.Decide.{ℕ-discrete, decLt}
 use lib.Dec.{eqb, eqb·suc-zero}
 use lib.ListN.{length}
 use lib.Seq.{getD-set-same, getD-set-other}
@@ -28,10 +29,11 @@ use Rattle.buffers.specs.declared.Store.{Store}
 use Rattle.buffers.specs.declared.Store.the-variants as store
 use Rattle.buffers.specs.declared.Spot.{Spot}
 use Rattle.buffers.specs.declared.Spot.the-variants as spot
-use Rattle.buffers.specs.Stores.{spotOf, spotFieldOf, hitsOf}
+use Rattle.buffers.specs.Stores.{spotOf, spotFieldOf, hitsOf, valueOf}
 use Rattle.memory.specs.declared.Memory.{Memory}
 use Rattle.memory.specs.Memories.{maxCells, atCell, putCell, usedOf, markOf, fieldOf, putFieldOf, thereOf, heldOf, appliedOf}
 use Rattle.memory.proofs.Shapes.{Shaped}
+use Rattle.memory.proofs.Ends.{put-past}
 
 -- "field above 1" is never offered
 abbrev pub lastField : ℕ
@@ -60,6 +62,17 @@ module _ {A : Type 0} (l : List A) (z v : A) where
       go : Dec (d ≡ c) → atCell (putCell l c v) d z ≡ pick (eqb c d) v (atCell l d z)
       go (yes e) = rw (eq-eqb c d (sym e), e) (cell-same c p h)
       go (no n) = rw (ne-eqb c d (λ q. n (sym q))) (cell-other c d n)
+
+  -- each cell is as before, or has the value put
+  pub cell-either : (c d : ℕ) → (atCell (putCell l c v) d z ≡ atCell l d z) ⊎ (atCell (putCell l c v) d z ≡ v)
+  cell-either zero d = inl refl
+  cell-either (suc i) d = by-cases (ℕ-discrete d (suc i)) (λ e. by-cases (decLt i (length l)) (λ h. inr (here e h)) (λ h. inl (past h))) (λ n. inl (cell-other (suc i) d n))
+    where
+      here : d ≡ suc i → i < length l → atCell (putCell l (suc i) v) d z ≡ v
+      here e h = rw e (cell-same (suc i) (omega arith) (omega arith))
+
+      past : (i < length l → ⊥) → atCell (putCell l (suc i) v) d z ≡ atCell l d z
+      past h = ap (λ (k : List A). atCell k d z) (sym (put-past l (suc i) (length l) refl (λ q. omega arith) (omega arith) v))
 
 -- ---- where a spot is there
 module _ (m : Memory) where
@@ -130,6 +143,9 @@ held-same m n spot.Sense k = rw (k .fm)
 held-same m n spot.AllocSense k = rw (k .fa)
 held-same m n spot.Phase k = rw (k .phase)
 
+pub field-same : (m n : Memory) (c f : ℕ) → Alike m n → fieldOf n c f ≡ fieldOf m c f
+field-same m n c f k = rw (k .field0, k .field1)
+
 -- the parts that no store changes
 pub record Settled (m n : Memory) : Type 0 where
   pub cells : n .cells ≡ m .cells
@@ -160,6 +176,24 @@ applied-buffers m (store.Field c f v) = refl
 applied-buffers m (store.Sense b) = refl
 applied-buffers m (store.AllocSense b) = refl
 applied-buffers m (store.Phase x) = refl
+
+-- "A commit applies one's oldest store": each field is as before, or has the value stored
+pub applied-field : (m : Memory) (s : Store) (d g : ℕ) → (fieldOf (appliedOf m s) d g ≡ fieldOf m d g) ⊎ (fieldOf (appliedOf m s) d g ≡ valueOf s)
+unfolding appliedOf
+applied-field m (store.Mark c b) d g = inl refl
+applied-field m (store.Field c f v) d g = go (eqb f 0) (eqb g 0)
+  where
+    after : Bool → Bool → ℕ
+    after a b = pick b (atCell (pick a (putCell (m .field0) c v) (m .field0)) d 0) (atCell (pick a (m .field1) (putCell (m .field1) c v)) d 0)
+
+    go : (a b : Bool) → (after a b ≡ pick b (atCell (m .field0) d 0) (atCell (m .field1) d 0)) ⊎ (after a b ≡ v)
+    go true true = cell-either (m .field0) 0 v c d
+    go true false = inl refl
+    go false true = inl refl
+    go false false = cell-either (m .field1) 0 v c d
+applied-field m (store.Sense b) d g = inl refl
+applied-field m (store.AllocSense b) d g = inl refl
+applied-field m (store.Phase x) d g = inl refl
 
 bit-field : (f : ℕ) → f ≤ lastField → (f ≡ 0) ⊎ (f ≡ 1)
 bit-field f h = by-cases (ℕ-discrete f 0) inl (λ n. inr (omega arith))

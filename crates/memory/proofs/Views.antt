@@ -23,7 +23,8 @@ use Rattle.buffers.specs.Buffers.{newestOf, storeOrOf}
 use Rattle.buffers.proofs.Newests.{newest-last, newest-first}
 use Rattle.memory.specs.declared.Memory.{Memory}
 use Rattle.memory.specs.Memories.{thereOf, heldOf}
-use Rattle.memory.proofs.Shapes.{Shaped, pendingFor, viewOf, view-is}
+use Rattle.memory.specs.Views.{pendingFor, viewOf}
+use Rattle.memory.proofs.Shapes.{Shaped, view-is}
 use Rattle.memory.proofs.Spots.{Plain, held-same, held-mark, held-field}
 use Rattle.memory.proofs.Effects.{Written, Committed, Relocked, Reset, committed-held}
 

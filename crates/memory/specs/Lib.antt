@@ -1,3 +1,4 @@
 pub mod Memories
 pub mod Looks
 pub mod Steps
+pub mod Views

@@ -8,6 +8,7 @@ use native.Mathlib.Omega.{arith}
 use lib.Dec.{eqb}
 use borrow.Author.Tests.{ne-eqb, eq-eqb}
 use Rattle.base.specs.Pick.{pick}
+use Rattle.base.proofs.Bits.{bit-same, bit-other}
 use Rattle.cells.specs.Sets.{removeOf, fullOf, Member}
 use Rattle.buffers.specs.declared.Store.{Store}
 use Rattle.memory.specs.declared.Memory.{Memory}
@@ -27,7 +28,6 @@ use Rattle.rows.specs.Offers.{Bare, OnlyX}
 use Rattle.rows.specs.Reasons.{mover}
 use Rattle.rows.specs.Rows.{seesBit, seesValue, findsFree, findsMark, Marks, old, new, root, first, second, Next, write, marked, roots, Mark, Collector, fences, types, raises, raises-last, polls-up, polls, polls-last, reads-sense, writes-sense, writes-init, writes-mark, writes-alloc, takes, takes-none, reads-first, reads-first-null, marks, reads-second, reads-second-null, drops, drops-last, writes-sweep, spares, spares-last, condemns, frees, frees-last, writes-idle}
 use Rattle.rows.proofs.Offering.{bare-blank, one-naming}
-use Rattle.rows.proofs.Seeing.{bit-same, bit-other}
 use Rattle.rows.proofs.RoundRows.{fence-row, type-row, raise-row, raise-last-row, poll-up-row, poll-row, poll-last-row}
 use Rattle.rows.proofs.Marking.{marked-old, marked-y, marked-cell, mark-row}
 use Rattle.rows.proofs.CollectorMoves.{take-some, take-none, scan-mark, scan-past, drop-on, drop-last, sweep-on, sweep-last, spared-on, spared-last}

@@ -7,6 +7,8 @@ use Prim.Native.Nat.{ℕ, _≤_, _<_}
 use native.Mathlib.Decide.{ℕ-discrete}
 use native.Mathlib.Omega.{arith}
 use Rattle.base.specs.Pick.{sameBit}
+use Rattle.base.proofs.Picking.{pick-ind, pick-no}
+use Rattle.base.proofs.Bits.{same-bit, other-bit}
 use Rattle.cells.specs.Sets.{noCells, Member, removeOf, fullOf}
 use Rattle.buffers.specs.declared.Store.{Store}
 use Rattle.memory.specs.declared.Memory.{Memory}
@@ -30,11 +32,10 @@ use Rattle.rows.specs.Reasons.{mover}
 use Rattle.rows.specs.Rows as row
 use Rattle.rows.specs.Rows.{At, Marks, Next, Collector, Round, seesValue, findsFree, findsMark}
 use Rattle.rows.specs.Views.{OwnClear, View, goes}
-use Rattle.rows.proofs.Picking.{pick-ind, pick-no}
 use Rattle.rows.proofs.Numbers.{sense-looked, field-looked, swept, freed, written}
 use Rattle.rows.proofs.Deeds.{Offered, Ready, read-told, sweep-told, free-told, write-told, apart-clear, asks}
 use Rattle.rows.proofs.Offering.{offers-none, offers-one}
-use Rattle.rows.proofs.Seeing.{bit-seen, value-seen, swept-free, swept-mark, same-bit, other-bit}
+use Rattle.rows.proofs.Seeing.{bit-seen, value-seen, swept-free, swept-mark}
 use Rattle.rows.proofs.Marking.{marked-cell, site, mark-view}
 use Rattle.rows.proofs.Standing.{placed}
 use Rattle.rows.proofs.RoundView.{round-view}

@@ -16,6 +16,7 @@ use native.Mathlib.Omega.{arith}
 use lib.Dec.{eqb}
 use lib.ListN.{length}
 use Rattle.base.specs.Pick.{pick}
+use Rattle.base.proofs.Picking.{pick-no}
 use Rattle.buffers.specs.declared.Spot.{Spot}
 use Rattle.buffers.specs.declared.Store.{Store}
 use Rattle.buffers.specs.Buffers.{maxStores}
@@ -30,7 +31,6 @@ use Rattle.rows.specs.Deeds.{Deed, reads, sweeps, writes, fences, locks,
 use Rattle.rows.specs.Reasons as reason
 use Rattle.rows.specs.Reasons.{mover, waiting, Blocked, OnFree, FlagDown, NotOffered, Hindered, Waits, OfFree, Reason}
 use Rattle.rows.specs.Views.{OwnFirst, OwnClear, View, stops}
-use Rattle.rows.proofs.Picking.{pick-no}
 use Rattle.rows.proofs.Numbers as number
 use Rattle.rows.proofs.Numbers.{Looked, Unblocked, Granted, Lent, Drained, Roomed}
 

@@ -15,6 +15,8 @@ use mathlib.Core.Logic.{by-cases}
 use lib.Dec.{eqb}
 use borrow.Author.Tests.{eqb-true}
 use Rattle.base.specs.Pick.{pick, sameBit}
+use Rattle.base.proofs.Picking.{pick-ind, pick-no, pick-from}
+use Rattle.base.proofs.Bits.{same-bit, other-bit, bit-same, bit-other}
 use Rattle.cells.specs.Sets.{addOf}
 use Rattle.cells.proofs.Members.{add-null}
 use Rattle.buffers.specs.declared.Phase.{Phase}
@@ -40,10 +42,9 @@ use Rattle.rows.specs.Rows.{seesBit, seesPhase, unnoted, Next, Mark}
 use Rattle.marking.specs.declared.Marked.{Marked}
 use Rattle.marking.specs.Marks.{markedCell, overOf, goesOn, ends, stopsOf, isIdle, lookStep, senseStep, phaseStep, lockStep, againStep, writeStep, unlockStep, markOf}
 use Rattle.rows.specs.Views.{OwnFirst, OwnClear, View, stops, goes}
-use Rattle.rows.proofs.Picking.{pick-ind, pick-no, pick-from}
 use Rattle.rows.proofs.Numbers.{Buffered, mark-looked, sense-looked, phase-looked, locked, unlocked, written}
 use Rattle.rows.proofs.Deeds.{Offered, Ready, Told, told-ind, read-told, lock-told, unlock-told, write-told}
-use Rattle.rows.proofs.Seeing.{bit-seen, phase-seen, same-bit, other-bit, bit-same, bit-other}
+use Rattle.rows.proofs.Seeing.{bit-seen, phase-seen}
 use Rattle.rows.proofs.Standing.{Standing, stage-same}
 
 -- ---- the cell being marked

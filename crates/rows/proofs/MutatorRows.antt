@@ -8,6 +8,7 @@ use mathlib.Core.Logic.{_⊎_, inl, inr}
 use Prim.Native.Nat.{ℕ, _≤_, _<_}
 use native.Mathlib.Omega.{arith}
 use borrow.Author.Tests.{eq-eqb, ne-eqb, le-ltb}
+use Rattle.base.proofs.Picking.{pick-ind}
 use Rattle.cells.specs.Sets.{noCells, Member, addOf, removeOf}
 use Rattle.cells.proofs.Members.{member-pos, add-null}
 use Rattle.buffers.specs.declared.Store.the-variants as store
@@ -27,7 +28,6 @@ use Rattle.rows.specs.Rows as row
 use Rattle.rows.specs.Rows.{At, Branch, Marks, Mark, Next, Mutator, seesValue, seesBit}
 use Rattle.marking.specs.Marks.{markedCell, markOf}
 use Rattle.mutator.specs.Mutators.{allocateStep, dropStep, readStep, afterMark, storing, storeStep, fenceStep, answerPlace, answerStep, topOf, marks, markStep, storeWriteStep, pastFence, answerFenceStep, rootsStep, stepping, handing, finishNoop, finishRoots, finishWork, mutatorOf}
-use Rattle.rows.proofs.Picking.{pick-ind}
 use Rattle.rows.proofs.Offering.{is-of-x, is-of-nothing, bare-blank, one-naming}
 use Rattle.rows.proofs.Standing.{operating, place-same, operation-same}
 use Rattle.rows.proofs.Marking.{marked-old, marked-y, marked-cell, mark-row}

@@ -12,6 +12,7 @@ use borrow.Author.Tests.{ltb-true, ltb-false, lt-ltb, leb-true, le-leb}
 use Rattle.base.specs.Pick.{pick}
 use Rattle.base.specs.Every.{_and_}
 use Rattle.base.proofs.Everies.{and-both}
+use Rattle.base.proofs.Picking.{pick-ind, pick-no}
 use Rattle.cells.specs.Sets.{memberOf, Member, addOf}
 use Rattle.cells.proofs.Members.{add-null}
 use Rattle.buffers.specs.declared.Spot.the-variants as spot
@@ -35,7 +36,6 @@ use Rattle.rows.specs.Rows as row
 use Rattle.rows.specs.Rows.{At, Branch, Mutator, seesValue}
 use Rattle.mutator.specs.Mutators.{allocateStep, dropStep, readStep, isStore, afterMark, storing, storeStep, fenceStep, answerPlace, answerStep, topOf}
 use Rattle.rows.specs.Views.{OwnClear, View, stops, goes}
-use Rattle.rows.proofs.Picking.{pick-ind, pick-no}
 use Rattle.rows.proofs.Numbers.{Buffered, field-looked, fenced, allocated}
 use Rattle.rows.proofs.Deeds.{Offered, Ready, apart-clear, allocate-told, read-told, fence-told, flag-down, declines, asks}
 use Rattle.rows.proofs.Offering.{among, amid, and-true, of-x, is-of-x, of-nothing, is-of-nothing}

@@ -9,6 +9,7 @@ use native.Mathlib.Omega.{arith}
 use lib.Dec.{eqb}
 use borrow.Author.Tests.{ne-eqb}
 use Rattle.base.specs.Pick.{pick}
+use Rattle.base.proofs.Picking.{pick-no, pick-from}
 use Rattle.cells.specs.Sets.{removeOf}
 use Rattle.buffers.specs.declared.Store.the-variants as store
 use Rattle.memory.specs.declared.Memory.{Memory}
@@ -33,7 +34,6 @@ use Rattle.marking.specs.declared.Marked.{Marked}
 use Rattle.marking.specs.Marks.{goesOn, stopsOf, lookStep}
 use Rattle.mutator.specs.Mutators.{afterMark, marks, markStep, storeWriteStep, pastFence, answerFenceStep, rootsStep, stepping, handing, finishNoop, finishRoots, finishWork, mutatorOf}
 use Rattle.rows.specs.Views.{OwnFirst, OwnClear, View, stops, goes}
-use Rattle.rows.proofs.Picking.{pick-no, pick-from}
 use Rattle.rows.proofs.Numbers.{mark-looked, fenced, written}
 use Rattle.rows.proofs.Deeds.{Offered, Ready, told-ind, apart-clear, read-told, write-told, fence-told, asks}
 use Rattle.rows.proofs.Offering.{offers-none, offers-one, no-flag}

@@ -22,7 +22,8 @@ use Rattle.memory.specs.declared.Memory.{Memory}
 use Rattle.memory.specs.Memories.{maxProcesses, asTaken, byBlocked, byPending, byFull, byOccupied, byFree, usedOf, bufferOf, blockedOf}
 use Rattle.memory.specs.Steps.{writeOf, fenceOf, lockOf, unlockOf, allocateOf, freeOf}
 use Rattle.memory.specs.Looks.{lookMarkOf, lookFieldOf, lookSenseOf, lookPhaseOf, lookSweptOf}
-use Rattle.memory.proofs.Shapes.{Shaped, pendingFor, pending-is}
+use Rattle.memory.specs.Views.{pendingFor}
+use Rattle.memory.proofs.Shapes.{Shaped, pending-is}
 use Rattle.memory.proofs.Blocks.{blocked-is}
 use Rattle.memory.proofs.Chains.{One, Two}
 use Rattle.memory.proofs.Refusals.{write-no, fence-no, lock-no, unlock-no, allocate-no, free-no}

@@ -13,6 +13,7 @@ use borrow.Author.Tests.{eqb-true, eq-eqb}
 use Rattle.base.specs.Pick.{pick}
 use Rattle.base.specs.Every.{_and_}
 use Rattle.base.proofs.Everies.{and-both}
+use Rattle.base.proofs.Picking.{pick-ind}
 use Rattle.cells.specs.Sets.{memberOf, Member}
 use Rattle.state.specs.declared.State.{State}
 use Rattle.state.specs.declared.Choice.{Choice}
@@ -24,7 +25,6 @@ use Rattle.rows.specs.Offers as offer
 use Rattle.rows.specs.Offers.{Bare, OnlyX, Among, offerOf}
 use Rattle.rows.specs.Reasons.{mover, FlagDown}
 use Rattle.rows.specs.Views.{View}
-use Rattle.rows.proofs.Picking.{pick-ind}
 use Rattle.rows.proofs.Deeds.{Offered, declines}
 
 pub and-true : {a b : Bool} → a ≡ true → b ≡ true → a and b ≡ true

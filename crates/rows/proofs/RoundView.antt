@@ -7,6 +7,7 @@ use Prim.Native.Nat.{ℕ}
 use native.Mathlib.Omega.{arith}
 use lib.Dec.{eqb}
 use Rattle.base.specs.Pick.{pick}
+use Rattle.base.proofs.Picking.{pick-ind, pick-no}
 use Rattle.cells.specs.Sets.{removeOf, fullOf}
 use Rattle.state.specs.declared.Handshake.{Handshake}
 use Rattle.state.specs.declared.Kind.{Kind}
@@ -27,7 +28,6 @@ use Rattle.rows.specs.Reasons.{mover}
 use Rattle.rows.specs.Rows as row
 use Rattle.rows.specs.Rows.{At, Round, Advance, Collector}
 use Rattle.rows.specs.Views.{View, goes}
-use Rattle.rows.proofs.Picking.{pick-ind, pick-no}
 use Rattle.rows.proofs.Numbers.{fenced}
 use Rattle.rows.proofs.Deeds.{Offered, Ready, fence-told, apart-clear, asks}
 use Rattle.rows.proofs.Offering.{offers-none, offers-one}

@@ -2,13 +2,11 @@
 --     bit-seen, value-seen, phase-seen      a look that is taken sees its own value
 --     swept-free, swept-mark                the sweep's look that is taken finds a free cell, or a mark
 --     fence-taken                           a fence that is taken changes nothing
---     same-bit, other-bit                   two bits that are the same, and that are not
---     bit-same, bit-other                   and the test of them
 use mathlib.Core.Path.{_≡_, refl, sym, ap, _∙_, subst}
-use mathlib.Core.Bool.{Bool, true, false, not, false≢true}
+use mathlib.Core.Bool.{true, false, false≢true}
 use Prim.Native.Nat.{ℕ}
 use lib.Dec.{eqb}
-use Rattle.base.specs.Pick.{sameBit}
+use Rattle.base.proofs.Picking.{pick-ind}
 use Rattle.memory.specs.declared.Memory.{Memory}
 use Rattle.memory.specs.declared.SeenBit.{SeenBit}
 use Rattle.memory.specs.declared.SeenValue.{SeenValue}
@@ -21,7 +19,6 @@ use Rattle.memory.proofs.Effects.{is-taken}
 use Rattle.memory.proofs.Refusals.{fence-same}
 use Rattle.memory.proofs.Sights.{look-swept-is}
 use Rattle.rows.specs.Rows.{seesBit, seesValue, seesPhase, findsFree, findsMark}
-use Rattle.rows.proofs.Picking.{pick-ind}
 
 pub bit-seen : (l : SeenBit) → l .no ≡ asTaken → l ≡ seesBit (l .bit)
 bit-seen l e = ap (λ (n : ℕ). record { no = n; bit = l .bit }) e
@@ -52,28 +49,3 @@ module _ (m : Memory) (p r : ℕ) (e : lookSweptOf m p r .no ≡ asTaken) where
 
   pub swept-mark : lookSweptOf m p r .used ≡ true → lookSweptOf m p r ≡ findsMark (lookSweptOf m p r .bit)
   swept-mark u = swept-finds .1 u
-
--- ---- bits
-pub same-bit : (a b : Bool) → sameBit a b ≡ true → a ≡ b
-unfolding sameBit
-same-bit true true e = refl
-same-bit true false e = absurd (false≢true e)
-same-bit false true e = absurd (false≢true e)
-same-bit false false e = refl
-
-pub other-bit : (a b : Bool) → sameBit a b ≡ false → not a ≡ b
-unfolding sameBit
-other-bit true true e = absurd (false≢true (sym e))
-other-bit true false e = refl
-other-bit false true e = refl
-other-bit false false e = absurd (false≢true (sym e))
-
-pub bit-same : (a : Bool) → sameBit a a ≡ true
-unfolding sameBit
-bit-same true = refl
-bit-same false = refl
-
-pub bit-other : (a : Bool) → sameBit a (not a) ≡ false
-unfolding sameBit
-bit-other true = refl
-bit-other false = refl

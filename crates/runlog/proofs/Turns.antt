@@ -13,8 +13,8 @@ use native.Mathlib.Decide.{ℕ-discrete}
 use native.Mathlib.Omega.{arith}
 use lib.Dec.{eqb}
 use borrow.Author.Tests.{eq-eqb, ne-eqb}
+use Rattle.base.proofs.Picking.{picked}
 use Rattle.state.specs.declared.State.{State}
-use Rattle.rows.proofs.Picking.{picked}
 use Rattle.engine.specs.Steps.{innerOf}
 use Rattle.runlog.specs.declared.record.Record.{Record}
 use Rattle.runlog.specs.declared.run.Run.{Run}

@@ -15,7 +15,7 @@ use lib.Dec.{eqb, leb}
 use lib.ListN.{length, getD, set, length-set}
 use lib.Seq.{getD-set-same, getD-set-other}
 use borrow.Author.Tests.{ne-eqb}
-use Rattle.base.specs.Pick.{pick}
+use Rattle.base.proofs.Picking.{pick-ind, picked}
 use Rattle.cells.specs.Sets.{memberOf, addOf, removeOf}
 use Rattle.cells.proofs.Bools.{split, not-both}
 use Rattle.cells.proofs.Members.{in-add, add-same, add-keeps, in-remove, remove-keeps}
@@ -32,12 +32,13 @@ use Rattle.memory.specs.declared.Memory.{Memory}
 use Rattle.memory.specs.declared.Done.{Done}
 use Rattle.memory.specs.Memories.{maxCells, maxProcesses, atCell, putCell, usedOf, noBuffer, bufferOf, withUsed, withMarks, withField0, withField1, withBuffer, pendingLenOf, blockedOf, thereOf, appliedOf, allocatedOf, freedOf}
 use Rattle.memory.specs.Steps.{writeOf, commitOf, fenceOf, lockOf, unlockOf, allocateOf, freeOf}
+use Rattle.memory.proofs.Spots.{cell-other, there-used}
+use Rattle.memory.proofs.Keeps.{put-length}
 use Rattle.sound.specs.WellFormed.{WellFormed}
 
--- either answer is well formed, so the one picked is
-either : (b : Bool) (x y : Done) → (b ≡ true → WellFormed (x .memory)) → (b ≡ false → WellFormed (y .memory)) → WellFormed (pick b x y .memory)
-either true x y s t = s refl
-either false x y s t = t refl
+-- an answer hands back a memory that is well formed
+abbrev Kept : Done → Type 0
+Kept d = WellFormed (d .memory)
 
 -- ---- arrays by cell
 module _ {A : Type 0} where
@@ -46,15 +47,6 @@ module _ {A : Type 0} where
 
   at-suc : (l : List A) (i : ℕ) (d : A) → atCell l (suc i) d ≡ getD l i d
   at-suc l i d = let q : suc i - 1 ≡ i = omega arith in rw (ne-eqb (suc i) 0 (λ e. omega arith), q) refl
-
-  put-sized : (l : List A) (c n : ℕ) (v : A) → length l ≡ n → length (putCell l c v) ≡ n
-  put-sized l zero n v e = e
-  put-sized l (suc i) n v e = rw (put-suc l i v) (length-set l i v ∙ e)
-
-  put-other : (l : List A) (c x : ℕ) (v d : A) → x ≢ c → atCell (putCell l c v) x d ≡ atCell l x d
-  put-other l zero x v d h = refl
-  put-other l (suc i) zero v d h = refl
-  put-other l (suc i) (suc j) v d h = rw (put-suc l i v, at-suc (set l i v) j d, at-suc l j d) (getD-set-other l i j v d (λ q. h (omega arith)))
 
   put-zero : (l : List A) (c : ℕ) (d : A) → atCell (putCell l c d) c d ≡ d
   put-zero l zero d = refl
@@ -86,14 +78,10 @@ module _ (m : Memory) (w : WellFormed m) where
         used-cells = inside;
         holder = w .holder;
         free-mark = marked;
-        free-field = λ c f u. either-field (eqb f 0) (zero0 c u) (zero1 c u);
+        free-field = λ c f u. picked (λ v. v ≡ 0) (eqb f 0) (zero0 c u) (zero1 c u);
         buffers = w .buffers;
         no-process = w .no-process;
       }
-    where
-      either-field : (b : Bool) {x y : ℕ} → x ≡ 0 → y ≡ 0 → pick b x y ≡ 0
-      either-field true p q = p
-      either-field false p q = q
 
   -- ---- other senses, phase, lock and buffers
   rest-kept : (a b : Bool) (t : Standing) (k : ℕ) (bs : List Buffer) → length bs ≡ maxProcesses →
@@ -136,24 +124,24 @@ module _ (m : Memory) (w : WellFormed m) where
 
   mark-kept : (c : ℕ) (b : Bool) → usedOf m c ≡ true → WellFormed (withMarks m (putCell (m .marks) c b))
   mark-kept c b u =
-      heap-kept (m .used) (putCell (m .marks) c b) (m .field0) (m .field1) (put-sized (m .marks) c maxCells b (w .marks-sized)) (w .field0-sized) (w .field1-sized) (w .used-cells)
-      (λ x n. put-other (m .marks) c x b false (apart c x u n) ∙ w .free-mark x n)
+      heap-kept (m .used) (putCell (m .marks) c b) (m .field0) (m .field1) (put-length (m .marks) c b ∙ w .marks-sized) (w .field0-sized) (w .field1-sized) (w .used-cells)
+      (λ x n. cell-other (m .marks) false b c x (apart c x u n) ∙ w .free-mark x n)
       (λ x n. w .free-field x 0 n)
       (λ x n. w .free-field x 1 n)
 
   field0-kept : (c v : ℕ) → usedOf m c ≡ true → WellFormed (withField0 m (putCell (m .field0) c v))
   field0-kept c v u =
-      heap-kept (m .used) (m .marks) (putCell (m .field0) c v) (m .field1) (w .marks-sized) (put-sized (m .field0) c maxCells v (w .field0-sized)) (w .field1-sized) (w .used-cells)
+      heap-kept (m .used) (m .marks) (putCell (m .field0) c v) (m .field1) (w .marks-sized) (put-length (m .field0) c v ∙ w .field0-sized) (w .field1-sized) (w .used-cells)
       (w .free-mark)
-      (λ x n. put-other (m .field0) c x v 0 (apart c x u n) ∙ w .free-field x 0 n)
+      (λ x n. cell-other (m .field0) 0 v c x (apart c x u n) ∙ w .free-field x 0 n)
       (λ x n. w .free-field x 1 n)
 
   field1-kept : (c v : ℕ) → usedOf m c ≡ true → WellFormed (withField1 m (putCell (m .field1) c v))
   field1-kept c v u =
-      heap-kept (m .used) (m .marks) (m .field0) (putCell (m .field1) c v) (w .marks-sized) (w .field0-sized) (put-sized (m .field1) c maxCells v (w .field1-sized)) (w .used-cells)
+      heap-kept (m .used) (m .marks) (m .field0) (putCell (m .field1) c v) (w .marks-sized) (w .field0-sized) (put-length (m .field1) c v ∙ w .field1-sized) (w .used-cells)
       (w .free-mark)
       (λ x n. w .free-field x 0 n)
-      (λ x n. put-other (m .field1) c x v 0 (apart c x u n) ∙ w .free-field x 1 n)
+      (λ x n. cell-other (m .field1) 0 v c x (apart c x u n) ∙ w .free-field x 1 n)
 
   applied-kept : (s : Store) → thereOf m (spotOf s) ≡ true → WellFormed (appliedOf m s)
   unfolding thereOf appliedOf
@@ -166,11 +154,11 @@ module _ (m : Memory) (w : WellFormed m) where
   allocated-kept : (c : ℕ) → IsCell (m .cells) c → WellFormed (allocatedOf m c)
   allocated-kept c h =
       heap-kept (addOf (m .used) c) (putCell (m .marks) c (m .fa)) (putCell (m .field0) c 0) (putCell (m .field1) c 0)
-      (put-sized (m .marks) c maxCells (m .fa) (w .marks-sized)) (put-sized (m .field0) c maxCells 0 (w .field0-sized)) (put-sized (m .field1) c maxCells 0 (w .field1-sized))
+      (put-length (m .marks) c (m .fa) ∙ w .marks-sized) (put-length (m .field0) c 0 ∙ w .field0-sized) (put-length (m .field1) c 0 ∙ w .field1-sized)
       (λ x u. inside x (in-add (m .used) c x u))
-      (λ x n. put-other (m .marks) c x (m .fa) false (other x n) ∙ w .free-mark x (before x n (split (usedOf m x))))
-      (λ x n. put-other (m .field0) c x 0 0 (other x n) ∙ w .free-field x 0 (before x n (split (usedOf m x))))
-      (λ x n. put-other (m .field1) c x 0 0 (other x n) ∙ w .free-field x 1 (before x n (split (usedOf m x))))
+      (λ x n. cell-other (m .marks) false (m .fa) c x (other x n) ∙ w .free-mark x (before x n (split (usedOf m x))))
+      (λ x n. cell-other (m .field0) 0 0 c x (other x n) ∙ w .free-field x 0 (before x n (split (usedOf m x))))
+      (λ x n. cell-other (m .field1) 0 0 c x (other x n) ∙ w .free-field x 1 (before x n (split (usedOf m x))))
     where
       inside : (x : ℕ) → (usedOf m x ≡ true) ⊎ (c ≡ x) → IsCell (m .cells) x
       inside x (inl u) = w .used-cells x u
@@ -186,7 +174,7 @@ module _ (m : Memory) (w : WellFormed m) where
   freed-kept : (c : ℕ) → WellFormed (freedOf m c)
   freed-kept c =
       heap-kept (removeOf (m .used) c) (putCell (m .marks) c false) (putCell (m .field0) c 0) (putCell (m .field1) c 0)
-      (put-sized (m .marks) c maxCells false (w .marks-sized)) (put-sized (m .field0) c maxCells 0 (w .field0-sized)) (put-sized (m .field1) c maxCells 0 (w .field1-sized))
+      (put-length (m .marks) c false ∙ w .marks-sized) (put-length (m .field0) c 0 ∙ w .field0-sized) (put-length (m .field1) c 0 ∙ w .field1-sized)
       (λ x u. w .used-cells x (in-remove (m .used) c x u .0))
       (λ x n. zero-at (m .marks) false (λ u. w .free-mark x u) n (ℕ-discrete x c))
       (λ x n. zero-at (m .field0) 0 (λ u. w .free-field x 0 u) n (ℕ-discrete x c))
@@ -198,24 +186,15 @@ module _ (m : Memory) (w : WellFormed m) where
 
       zero-at : {A : Type 0} {x : ℕ} (l : List A) (d : A) → (usedOf m x ≡ false → atCell l x d ≡ d) → memberOf (removeOf (m .used) c) x ≡ false → Dec (x ≡ c) → atCell (putCell l c d) x d ≡ d
       zero-at l d z n (yes e) = rw e (put-zero l c d)
-      zero-at {x = x} l d z n (no e) = put-other l c x d d e ∙ z (before x n e (split (usedOf m x)))
-
--- the spot of a store is there whatever is pending
-there-same : (m : Memory) (p : ℕ) (b : Buffer) (s : Store) → thereOf (withBuffer m p b) (spotOf s) ≡ thereOf m (spotOf s)
-unfolding thereOf
-there-same m p b (store.Mark c x) = refl
-there-same m p b (store.Field c f v) = refl
-there-same m p b (store.Sense x) = refl
-there-same m p b (store.AllocSense x) = refl
-there-same m p b (store.Phase x) = refl
+      zero-at {x = x} l d z n (no e) = cell-other l d d c x e ∙ z (before x n e (split (usedOf m x)))
 
 -- ---- the steps
 module _ (m : Memory) (p : ℕ) (w : WellFormed m) (mine : p < m .processes) where
   pub write-kept : (e : Entry) → StoreFits (m .cells) (e .store) → WellFormed (writeOf m p e .memory)
   unfolding writeOf
   write-kept e f =
-      either (leb maxProcesses p) _ _ (λ _. w)
-      (λ _. either (pushOf (bufferOf m p) e .taken) _ _
+      pick-ind Kept (leb maxProcesses p) (λ _. w)
+      (λ _. pick-ind Kept (pushOf (bufferOf m p) e .taken)
       (λ _. buffer-kept m w p (pushOf (bufferOf m p) e .buffer) mine (push-kept (m .cells) (bufferOf m p) e (w .buffers p mine) f))
       (λ _. w))
 
@@ -224,34 +203,34 @@ module _ (m : Memory) (p : ℕ) (w : WellFormed m) (mine : p < m .processes) whe
   commit-kept =
       let b = popOf (bufferOf m p) in
       let s = b .entry .store in
-      either (eqb (pendingLenOf m p) 0) _ _ (λ _. w)
-      (λ _. either (blockedOf m p) _ _ (λ _. w)
-      (λ _. either (thereOf m (spotOf s)) _ _
-      (λ u. applied-kept (withBuffer m p (b .buffer)) (buffer-kept m w p (b .buffer) mine (pop-kept (m .cells) (bufferOf m p) (w .buffers p mine))) s (there-same m p (b .buffer) s ∙ u))
+      pick-ind Kept (eqb (pendingLenOf m p) 0) (λ _. w)
+      (λ _. pick-ind Kept (blockedOf m p) (λ _. w)
+      (λ _. pick-ind Kept (thereOf m (spotOf s))
+      (λ u. applied-kept (withBuffer m p (b .buffer)) (buffer-kept m w p (b .buffer) mine (pop-kept (m .cells) (bufferOf m p) (w .buffers p mine))) s (there-used m (withBuffer m p (b .buffer)) (spotOf s) refl ∙ u))
       (λ _. w)))
 
   pub fence-kept : WellFormed (fenceOf m p .memory)
   unfolding fenceOf
-  fence-kept = either (eqb (pendingLenOf m p) 0) _ _ (λ _. w) (λ _. w)
+  fence-kept = picked Kept (eqb (pendingLenOf m p) 0) w w
 
   pub lock-kept : WellFormed (lockOf m p .memory)
   unfolding lockOf
   lock-kept =
-      either (eqb (m .lock) 0) _ _
+      pick-ind Kept (eqb (m .lock) 0)
       (λ _. rest-kept m w (m .fm) (m .fa) (m .phase) (p + 1) (m .buffers) (w .buffers-sized) (λ q e. omega arith) (w .buffers) (w .no-process))
       (λ _. w)
 
   pub unlock-kept : WellFormed (unlockOf m p .memory)
   unfolding unlockOf
   unlock-kept =
-      either (eqb (pendingLenOf m p) 0) _ _
+      pick-ind Kept (eqb (pendingLenOf m p) 0)
       (λ _. rest-kept m w (m .fm) (m .fa) (m .phase) 0 (m .buffers) (w .buffers-sized) (λ q e. omega arith) (w .buffers) (w .no-process))
       (λ _. w)
 
   pub allocate-kept : (c : ℕ) → IsCell (m .cells) c → WellFormed (allocateOf m p c .memory)
   unfolding allocateOf
-  allocate-kept c h = either (blockedOf m p) _ _ (λ _. w) (λ _. either (usedOf m c) _ _ (λ _. w) (λ _. allocated-kept m w c h))
+  allocate-kept c h = pick-ind Kept (blockedOf m p) (λ _. w) (λ _. pick-ind Kept (usedOf m c) (λ _. w) (λ _. allocated-kept m w c h))
 
   pub free-kept : (c : ℕ) → WellFormed (freeOf m p c .memory)
   unfolding freeOf
-  free-kept c = either (blockedOf m p) _ _ (λ _. w) (λ _. freed-kept m w c)
+  free-kept c = pick-ind Kept (blockedOf m p) (λ _. w) (λ _. freed-kept m w c)

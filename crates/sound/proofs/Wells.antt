@@ -1,7 +1,7 @@
 -- Well-formed memory: the test and the facts agree. Assumes nothing.
 --     well-formed      `wellFormedOf` holds exactly if `WellFormed` does
 use mathlib.Core.Path.{_≡_, refl}
-use mathlib.Core.Bool.{Bool, true, false, false≢true}
+use mathlib.Core.Bool.{true, false}
 use mathlib.Core.List.{List}
 use mathlib.Core.Logic.{_↔_, _⊎_, inl, inr}
 use Prim.Native.Nat.{ℕ, zero, suc, _+_, _-_, _≤_, _<_}
@@ -13,7 +13,7 @@ use lib.ListN.{length}
 use borrow.Author.Tests.{leb-true, ltb-false, eqb-true, lt-ltb, le-ltb, le-leb, eq-eqb, ne-eqb}
 use Rattle.base.specs.Pick.{pick}
 use Rattle.base.specs.Every.{_and_}
-use Rattle.base.proofs.Everies.{and-both, every-at, every-all}
+use Rattle.base.proofs.Everies.{and-both, unless, every-at, every-all}
 use Rattle.base.proofs.Lists.{beyond}
 use Rattle.cells.specs.Sets.{belowOf}
 use Rattle.cells.proofs.Bools.{split}
@@ -24,11 +24,6 @@ use Rattle.buffers.proofs.Wells as buffer
 use Rattle.memory.specs.declared.Memory.{Memory}
 use Rattle.memory.specs.Memories.{maxCells, maxProcesses, atCell, usedOf, markOf, fieldOf, bufferOf}
 use Rattle.sound.specs.WellFormed.{minCells, minProcesses, WellFormed, countsFitOf, cellFitsOf, cellAtOf, cellsFitOf, heldFitsOf, bufferAtOf, buffersFitOf, fitsOf, sizedOf, wellFormedOf}
-
--- ---- a test that must fail before the rest
-not-and : (a b : Bool) → pick a false b ≡ true → (a ≡ false) × (b ≡ true)
-not-and true b e = absurd (false≢true e)
-not-and false b e = (refl, e)
 
 record Sized (m : Memory) : Type 0 where
   marks : length (m .marks) ≡ maxCells
@@ -54,9 +49,9 @@ module _ (m : Memory) where
   counts-told : countsFitOf m ≡ true → Counts m
   unfolding countsFitOf
   counts-told e =
-      let x = not-and (ltb (m .cells) minCells) _ e in
-      let y = not-and (ltb maxCells (m .cells)) _ (x .1) in
-      let z = not-and (ltb (m .processes) minProcesses) _ (y .1) in
+      let x = unless (ltb (m .cells) minCells) _ e in
+      let y = unless (ltb maxCells (m .cells)) _ (x .1) in
+      let z = unless (ltb (m .processes) minProcesses) _ (y .1) in
       record { some-cells = ltb-false _ _ (x .0); few-cells = ltb-false _ _ (y .0); some-processes = ltb-false _ _ (z .0); few-processes = leb-true _ _ (z .1) }
 
 -- ---- cells: what stands at a cell above the arrays is zero
@@ -80,7 +75,7 @@ module _ (m : Memory) (s : Sized m) (fit : cellsFitOf m ≡ true) where
   zero-at i (yes l) u =
       let e : pick (markOf m (i + 1)) false (eqb (fieldOf m (i + 1) 0) 0 and eqb (fieldOf m (i + 1) 1) 0) ≡ true =
       rw u at (every-at (cellAtOf m) maxCells i fit l) in
-      let x = not-and (markOf m (i + 1)) _ e in
+      let x = unless (markOf m (i + 1)) _ e in
       let y = and-both (eqb (fieldOf m (i + 1) 0) 0) _ (x .1) in
       record { mark = x .0; field = field-zero m (i + 1) (eqb-true _ _ (y .0)) (eqb-true _ _ (y .1)) }
   zero-at i (no l) u =
@@ -114,7 +109,7 @@ told m e =
     let a = and-both (sizedOf m) (fitsOf m) e in
     let b = and-both (countsFitOf m) _ (a .1) in
     let d = and-both (belowOf (m .used) (m .cells)) _ (b .1) in
-    let f = not-and (ltb (m .processes) (m .lock)) _ (d .1) in
+    let f = unless (ltb (m .processes) (m .lock)) _ (d .1) in
     let g = and-both (cellsFitOf m) (buffersFitOf m) (f .1) in
     let s = sized-told m (a .0) in
     let n = counts-told m (b .0) in

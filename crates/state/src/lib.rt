@@ -62,7 +62,7 @@ pub struct Hands {
 
 pub struct State {
     pub memory: Memory,
-    pub procs: [Process; 5],
+    pub procs: [Process; State::PROCESSES],
     pub hands: Hands,
 }
 
@@ -202,8 +202,10 @@ impl Process {
 }
 
 impl State {
-    pub const MUTATORS: u8 = 4;
+    // "M from 1 to 4"
+    pub const MUTATORS: usize = 4;
 
+    // with the collector
     pub const PROCESSES: usize = 5;
 }
 

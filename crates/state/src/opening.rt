@@ -17,18 +17,18 @@ pub struct Heap {
     pub cells: u8,
     pub processes: u8,
     pub used: u64,
-    pub field0: [u8; 32],
-    pub field1: [u8; 32],
-    pub roots: [u64; 4],
+    pub field0: [u8; Memory::CELLS],
+    pub field1: [u8; Memory::CELLS],
+    pub roots: [u64; State::MUTATORS],
 }
 
 // "all marks of occupied cells 1"
-fn marks(used: u64) -> [bool; 32]
+fn marks(used: u64) -> [bool; Memory::CELLS]
     ensures { λ r. ⌜ r ≡ openMarks used ⌝ }
 {
-    let mut marks = [false; 32];
+    let mut marks = [false; Memory::CELLS];
     let mut i = 0;
-    while i < 32 {
+    while i < Memory::CELLS {
         marks[i] = cells::member(used, (i + 1) as u8);
         i += 1;
     }
@@ -44,7 +44,7 @@ fn memory(h: Heap) -> Memory
     let field0 = h.field0;
     let field1 = h.field1;
     let phase = Standing { phase: Phase::Idle };
-    let buffers = [b; 5];
+    let buffers = [b; Memory::PROCESSES];
     Memory {
         cells: h.cells,
         processes: h.processes,

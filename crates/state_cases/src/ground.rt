@@ -1,4 +1,4 @@
-// The state that the cases start from, and how a case is written: a name, and whether its state is well formed.
+// The states that the cases start from, and whether a state is well formed.
 use state::Process;
 use state::State;
 use state::opening::Heap;
@@ -27,11 +27,19 @@ pub fn answer(s: State) {
     }
 }
 
-pub fn say(name: &[u8], s: State) {
-    io::write_all(1, name);
-    io::write_all(1, b": ");
-    answer(s);
-    io::write_all(1, b"\n");
+// A heap with no cell occupied and no roots.
+pub fn bare(cells: u8, processes: u8) -> State {
+    let field0 = [0; 32];
+    let field1 = [0; 32];
+    let roots = [0; 4];
+    State::opening(Heap {
+        cells,
+        processes,
+        used: 0,
+        field0,
+        field1,
+        roots,
+    })
 }
 
 // The ground with process p replaced.

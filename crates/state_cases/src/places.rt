@@ -1,21 +1,22 @@
 // Every place and stage: a well-formed state there, and the same with each note out of range in turn.
+use super::acts;
 use super::ground;
 use state::Process;
 
 // The stages of a place: a mark's seven, a round's four, or none.
-pub fn stages(place: u8) -> u8 {
+fn stages(place: u8) -> u8 {
     match place {
-        1 => 7,
-        2 => 7,
-        7 => 7,
-        23 => 7,
-        25 => 7,
-        11 => 4,
-        14 => 4,
-        16 => 4,
-        19 => 4,
-        20 => 4,
-        27 => 4,
+        Process::STORE_MARK_OLD
+        | Process::STORE_MARK_Y
+        | Process::ROOTS_MARK
+        | Process::ROW7_MARK0
+        | Process::ROW7_MARK1 => 7,
+        Process::ROW1_ROUND
+        | Process::ROW3_ROUND
+        | Process::ROW4_ROUND
+        | Process::ROW5_ROUND
+        | Process::ROW6_ROUND
+        | Process::ROW8_ROUND => 4,
         _ => 0,
     }
 }
@@ -23,28 +24,18 @@ pub fn stages(place: u8) -> u8 {
 // The notes of the operation or the row, and what is left.
 fn noted(mut q: Process, place: u8) -> Process {
     match place {
-        1 => stored(q),
-        2 => stored(q),
-        3 => stored(q),
-        7 => {
-            q.left = 5;
-            q
-        }
-        23 => scanned(q),
-        24 => scanned(q),
-        25 => scanned(q),
-        26 => scanned(q),
-        30 => {
-            q.left = 7;
-            q
-        }
-        31 => {
+        Process::STORE_MARK_OLD | Process::STORE_MARK_Y | Process::STORE_WRITE => return stored(q),
+        Process::ROOTS_MARK => q.left = 5,
+        Process::ROW7_MARK0 | Process::ROW7_READ1 | Process::ROW7_MARK1 | Process::ROW7_DROP =>
+            return scanned(q),
+        Process::ROW10_LOOK => q.left = 7,
+        Process::ROW10_FREE => {
             q.x = 1;
             q.left = 6;
-            q
         }
-        _ => q,
+        _ => {}
     }
+    q
 }
 
 // A store of 2 in field 1 of cell 1, over the old value 3.
@@ -64,16 +55,14 @@ fn scanned(mut q: Process) -> Process {
 // The cell that a mark notes for itself.
 fn own(place: u8) -> u8 {
     match place {
-        7 => 2,
-        23 => 2,
-        25 => 2,
+        Process::ROOTS_MARK | Process::ROW7_MARK0 | Process::ROW7_MARK1 => 2,
         _ => 0,
     }
 }
 
 // The cell being marked.
 fn marked(place: u8) -> u8 {
-    if place == 1 {
+    if place == Process::STORE_MARK_OLD {
         return 3;
     }
     2
@@ -82,14 +71,14 @@ fn marked(place: u8) -> u8 {
 // The notes of a mark at its stage: the first look from the second, the sense from the third, the cell being greyed at the seventh.
 fn marking(mut q: Process, place: u8, stage: u8) -> Process {
     q.cell = own(place);
-    if place == 7 {
-        if stage == 1 {
+    if place == Process::ROOTS_MARK {
+        if stage == Process::LOOK {
             q.cell = 0;
         }
     }
-    q.look = 2 <= stage;
-    q.sense = 3 <= stage;
-    if stage == 7 {
+    q.look = Process::SENSE <= stage;
+    q.sense = Process::PHASE <= stage;
+    if stage == Process::UNLOCK {
         q.grey = marked(place);
     }
     q
@@ -106,7 +95,7 @@ pub fn fitting(place: u8, stage: u8) -> Process {
         return marking(q, place, stage);
     }
     if n == 4 {
-        if 3 <= stage {
+        if Process::RAISE <= stage {
             q.left = 3;
         }
     }
@@ -114,8 +103,8 @@ pub fn fitting(place: u8, stage: u8) -> Process {
 }
 
 // The process whose program has the place: the collector, or mutator 1.
-pub fn whose(place: u8) -> u8 {
-    if 11 <= place {
+fn whose(place: u8) -> u8 {
+    if Process::ROW1_ROUND <= place {
         return 0;
     }
     1
@@ -128,39 +117,26 @@ fn column(name: &[u8], p: u8, q: Process) {
     ground::answer(ground::seat(p, q));
 }
 
+// The process with one note broken: the letter of the note (see `acts`), and its value.
+fn broken(name: &[u8], p: u8, q: Process, letter: u8, v: u8) {
+    column(name, p, acts::noted(q, letter, v));
+}
+
 // Numbers above N = 3, a field above 1.
 fn numbers(p: u8, q: Process) {
-    let mut x = q;
-    x.x = 4;
-    column(b"x", p, x);
-    let mut f = q;
-    f.f = 2;
-    column(b"f", p, f);
-    let mut y = q;
-    y.y = 4;
-    column(b"y", p, y);
-    let mut old = q;
-    old.old = 4;
-    column(b"old", p, old);
-    let mut cell = q;
-    cell.cell = 4;
-    column(b"cell", p, cell);
-    let mut grey = q;
-    grey.grey = 4;
-    column(b"grey", p, grey);
+    broken(b"x", p, q, b'X', 4);
+    broken(b"f", p, q, b'F', 2);
+    broken(b"y", p, q, b'Y', 4);
+    broken(b"old", p, q, b'O', 4);
+    broken(b"cell", p, q, b'C', 4);
+    broken(b"grey", p, q, b'G', 4);
 }
 
 // Sets with the bit of cell 4.
 fn sets(p: u8, q: Process) {
-    let mut left = q;
-    left.left = 8;
-    column(b"left", p, left);
-    let mut work = q;
-    work.work = 8;
-    column(b"work", p, work);
-    let mut roots = q;
-    roots.roots = 8;
-    column(b"roots", p, roots);
+    broken(b"left", p, q, b'L', 8);
+    broken(b"work", p, q, b'W', 8);
+    broken(b"roots", p, q, b'R', 8);
 }
 
 // Bits where they are not in use.
@@ -172,9 +148,7 @@ fn bits(p: u8, q: Process) {
     }
     if 0 < p {
         if !q.sense {
-            let mut sense = q;
-            sense.sense = true;
-            column(b"sense", p, sense);
+            broken(b"sense", p, q, b'N', 1);
         }
     }
 }

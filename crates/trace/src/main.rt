@@ -1,8 +1,11 @@
 // Runs a whole collection with two mutators and prints a line for each choice: the choice, whose step it is and its name, the number of the answer, and the place after it.
-// A choice is six digits, as a record has them: process, kind, operation, x, f, y. A refused choice is followed by the next one, on the same state.
+// The choices are the program's input, the file stdin beside src/, in chapters: a title, and the choices below it. A choice is six digits, as a record has them: process, kind,
+// operation, x, f, y. A refused choice is followed by the next one, on the same state.
 mod names;
+mod text;
 
 use state::Choice;
+use state::Process;
 use state::State;
 use state::opening::Heap;
 
@@ -27,114 +30,86 @@ fn say(text: &[u8]) {
     io::write_all(1, text);
 }
 
-fn digit(text: &[u8], i: usize) -> u8 {
-    if i < text.len() {
-        let b = text[i];
-        if b'0' <= b {
-            return b - b'0';
-        }
-    }
-    0
-}
-
 fn choice(text: &[u8]) -> Choice {
     Choice {
-        process: digit(text, 0),
-        kind: digit(text, 1),
-        op: digit(text, 2),
-        x: digit(text, 3),
-        f: digit(text, 4),
-        y: digit(text, 5),
+        process: text::digit(text, 0),
+        kind: text::digit(text, 1),
+        op: text::digit(text, 2),
+        x: text::digit(text, 3),
+        f: text::digit(text, 4),
+        y: text::digit(text, 5),
     }
+}
+
+// The line of a choice: its step from where the process was, the answer's number, and where the process then is.
+fn line(c: Choice, before: Process, no: u8, after: Process) {
+    names::choice(c);
+    names::step(c, before);
+    say(b": ");
+    io::print_decimal(1, names::wide(no));
+    say(b" -> ");
+    names::place(after);
+    say(b"\n");
 }
 
 // One choice, its line, and the state after it.
 fn told(s: State, text: &[u8]) -> State {
     let c = choice(text);
-    let before = s.process(c.process);
     let a = engine::step(s, c);
     let after = a.state;
-    let q = after.process(c.process);
-    names::choice(c);
-    names::step(c, before);
-    say(b": ");
-    io::print_decimal(1, names::wide(a.no));
-    say(b" -> ");
-    names::place(q);
-    say(b"\n");
+    line(c, s.process(c.process), a.no, after.process(c.process));
     after
 }
 
-// The choices of a chapter, seven bytes each, the last one six.
-fn chapter(start: State, title: &[u8], text: &[u8]) -> State {
-    say(b"# ");
-    say(title);
-    say(b"\n");
-    let mut s = start;
+// A line that starts with # is the title of a chapter.
+fn title(text: &[u8]) {
+    let k = text::rest(text);
+    if k <= text.len() {
+        say(&text[..k]);
+        say(b"\n");
+    }
+}
+
+// What stands first in the text: a title, a choice, or what is between them.
+fn turn(s: State, text: &[u8]) -> State {
+    let b = text::byte(text, 0);
+    match b {
+        b'#' => {
+            title(text);
+            s
+        }
+        b'0'..=b'9' => told(s, text),
+        _ => s,
+    }
+}
+
+// How many bytes belong to the first.
+fn more(text: &[u8]) -> usize {
+    let b = text::byte(text, 0);
+    match b {
+        b'#' => text::rest(text),
+        b'0'..=b'9' => 5,
+        _ => 0,
+    }
+}
+
+// All chapters, one after the other.
+fn run(text: &[u8]) {
+    let mut s = State::opening(heap());
     let mut at = 0;
     while at < text.len() {
-        s = told(s, &text[at..]);
-        if text.len() - at < 7 {
-            return s;
+        let first = &text[at..];
+        s = turn(s, first);
+        let k = more(first);
+        if text.len() - at <= k {
+            return;
         }
-        at += 7;
+        at += k + 1;
     }
-    s
 }
 
 fn main() {
-    let mut s = State::opening(heap());
-    s = chapter(
-        s,
-        b"row 1: a no-op round; the first poll of 2 finds the flag up",
-        b"000000 000000 000100 000200 105000 100000 100000 000200 000100 205000 200000 200000 000200",
-    );
-    s = chapter(s, b"row 2: read fM, write its opposite", b"000000 000000");
-    s = chapter(
-        s,
-        b"row 3: the fence waits for the store; then a no-op round",
-        b"000000 010000 000000 000000 000100 000200 105000 100000 100000 205000 200000 200000 000100 000200",
-    );
-    s = chapter(
-        s,
-        b"row 4: write phase Init, a no-op round",
-        b"000000 010000 000000 000000 000100 000200 105000 100000 100000 205000 200000 200000 000100 000200",
-    );
-    s = chapter(
-        s,
-        b"row 5: write phase Mark, write fA, a no-op round",
-        b"000000 000000 010000 010000 000000 000000 000100 000200 105000 100000 100000 205000 200000 200000 000100 000200",
-    );
-    s = chapter(
-        s,
-        b"row 6: a roots round; 1 and 2 race for cell 1: 1 wins, 2 loses",
-        b"000000 000000 000100 000200 105000 100000 205000 200000 100100 200100 100000 200000 100000 200000 100000 200000 100000 100000 100000 110000 100000 100000 200000 200000 200000 200000 000100 000200",
-    );
-    s = chapter(
-        s,
-        b"row 6: take the list; row 7: scan cell 1, mark cell 2 behind its field 0; field 1 is null",
-        b"000000 000100 000000 000000 000000 000000 000000 000000 010000 000000 000000 000000",
-    );
-    s = chapter(s, b"row 7: scan cell 2", b"000200 000000 000000");
-    s = chapter(
-        s,
-        b"row 8: a work round, an empty list",
-        b"000000 000000 000100 000200 105000 100000 100000 205000 200000 200000 000100 000200 000000",
-    );
-    s = chapter(
-        s,
-        b"row 9: write phase Sweep; row 10: cell 3 is free, cell 4 is not reached and is freed",
-        b"000000 000100 000400 000000 000200 000300",
-    );
-    s = chapter(
-        s,
-        b"row 11: write phase Idle; row 1 again, whose fence waits for both stores",
-        b"000000 000000 010000 010000 000000",
-    );
-    s = chapter(s, b"the freed cell is allocated again", b"100400");
-    s = chapter(
-        s,
-        b"store: null in field 0 of cell 1, past the mark of y",
-        b"103100 100000 100000 100000 110000",
-    );
+    let mut text = io::large_buffer();
+    let n = io::read_full(0, &mut text);
+    run(&text[..n]);
 }

@@ -27,68 +27,90 @@ pub fn choice(c: Choice) {
 
 fn mutator(place: u8) {
     match place {
-        0 => say(b"top"),
-        1 => say(b"store: mark the old"),
-        2 => say(b"store: mark y"),
-        3 => say(b"store: write"),
-        4 => say(b"no-op: fence"),
-        5 => say(b"no-op: finish"),
-        6 => say(b"roots: fence"),
-        7 => say(b"roots: mark"),
-        8 => say(b"roots: finish"),
-        9 => say(b"work: fence"),
-        10 => say(b"work: finish"),
+        Process::TOP => say(b"top"),
+        Process::STORE_MARK_OLD => say(b"store: mark the old"),
+        Process::STORE_MARK_Y => say(b"store: mark y"),
+        Process::STORE_WRITE => say(b"store: write"),
+        Process::NOOP_FENCE => say(b"no-op: fence"),
+        Process::NOOP_FINISH => say(b"no-op: finish"),
+        Process::ROOTS_FENCE => say(b"roots: fence"),
+        Process::ROOTS_MARK => say(b"roots: mark"),
+        Process::ROOTS_FINISH => say(b"roots: finish"),
+        Process::WORK_FENCE => say(b"work: fence"),
+        Process::WORK_FINISH => say(b"work: finish"),
+        _ => say(b"?"),
+    }
+}
+
+fn rows_1_to_5(place: u8) {
+    match place {
+        Process::ROW1_ROUND => say(b"row 1 round"),
+        Process::ROW2_READ => say(b"row 2 read fM"),
+        Process::ROW2_WRITE => say(b"row 2 write fM"),
+        Process::ROW3_ROUND => say(b"row 3 round"),
+        Process::ROW4_WRITE => say(b"row 4 write phase Init"),
+        Process::ROW4_ROUND => say(b"row 4 round"),
+        Process::ROW5_PHASE => say(b"row 5 write phase Mark"),
+        Process::ROW5_ALLOC => say(b"row 5 write fA"),
+        Process::ROW5_ROUND => say(b"row 5 round"),
+        _ => say(b"?"),
+    }
+}
+
+fn rows_6_to_8(place: u8) {
+    match place {
+        Process::ROW6_ROUND => say(b"row 6 round"),
+        Process::ROW6_TAKE => say(b"row 6 take"),
+        Process::ROW7_READ0 => say(b"row 7 read field 0"),
+        Process::ROW7_MARK0 => say(b"row 7 mark field 0"),
+        Process::ROW7_READ1 => say(b"row 7 read field 1"),
+        Process::ROW7_MARK1 => say(b"row 7 mark field 1"),
+        Process::ROW7_DROP => say(b"row 7 drop"),
+        Process::ROW8_ROUND => say(b"row 8 round"),
+        Process::ROW8_TAKE => say(b"row 8 take"),
+        _ => say(b"?"),
+    }
+}
+
+fn rows_9_to_11(place: u8) {
+    match place {
+        Process::ROW9_WRITE => say(b"row 9 write phase Sweep"),
+        Process::ROW10_LOOK => say(b"row 10 look"),
+        Process::ROW10_FREE => say(b"row 10 free"),
+        Process::ROW11_WRITE => say(b"row 11 write phase Idle"),
         _ => say(b"?"),
     }
 }
 
 fn collector(place: u8) {
-    match place {
-        11 => say(b"row 1 round"),
-        12 => say(b"row 2 read fM"),
-        13 => say(b"row 2 write fM"),
-        14 => say(b"row 3 round"),
-        15 => say(b"row 4 write phase Init"),
-        16 => say(b"row 4 round"),
-        17 => say(b"row 5 write phase Mark"),
-        18 => say(b"row 5 write fA"),
-        19 => say(b"row 5 round"),
-        20 => say(b"row 6 round"),
-        21 => say(b"row 6 take"),
-        22 => say(b"row 7 read field 0"),
-        23 => say(b"row 7 mark field 0"),
-        24 => say(b"row 7 read field 1"),
-        25 => say(b"row 7 mark field 1"),
-        26 => say(b"row 7 drop"),
-        27 => say(b"row 8 round"),
-        28 => say(b"row 8 take"),
-        29 => say(b"row 9 write phase Sweep"),
-        30 => say(b"row 10 look"),
-        31 => say(b"row 10 free"),
-        32 => say(b"row 11 write phase Idle"),
-        _ => say(b"?"),
+    if place <= Process::ROW5_ROUND {
+        rows_1_to_5(place);
+    } else if place <= Process::ROW8_TAKE {
+        rows_6_to_8(place);
+    } else {
+        rows_9_to_11(place);
     }
 }
 
 fn mark(stage: u8) {
     match stage {
-        1 => say(b"look"),
-        2 => say(b"read fM"),
-        3 => say(b"read phase"),
-        4 => say(b"lock"),
-        5 => say(b"look again"),
-        6 => say(b"write"),
-        7 => say(b"unlock"),
+        Process::LOOK => say(b"look"),
+        Process::SENSE => say(b"read fM"),
+        Process::PHASE => say(b"read phase"),
+        Process::LOCK => say(b"lock"),
+        Process::AGAIN => say(b"look again"),
+        Process::WRITE => say(b"write"),
+        Process::UNLOCK => say(b"unlock"),
         _ => say(b"?"),
     }
 }
 
 fn round(stage: u8) {
     match stage {
-        1 => say(b"fence"),
-        2 => say(b"set type"),
-        3 => say(b"raise"),
-        4 => say(b"poll"),
+        Process::FENCE => say(b"fence"),
+        Process::TYPE => say(b"set type"),
+        Process::RAISE => say(b"raise"),
+        Process::POLL => say(b"poll"),
         _ => say(b"?"),
     }
 }
@@ -109,11 +131,20 @@ fn operation(op: u8) {
 fn stage(q: Process) {
     let place = q.place;
     match place {
-        1 | 2 | 7 | 23 | 25 => {
+        Process::STORE_MARK_OLD
+        | Process::STORE_MARK_Y
+        | Process::ROOTS_MARK
+        | Process::ROW7_MARK0
+        | Process::ROW7_MARK1 => {
             say(b", ");
             mark(q.stage);
         }
-        11 | 14 | 16 | 19 | 20 | 27 => {
+        Process::ROW1_ROUND
+        | Process::ROW3_ROUND
+        | Process::ROW4_ROUND
+        | Process::ROW5_ROUND
+        | Process::ROW6_ROUND
+        | Process::ROW8_ROUND => {
             say(b", ");
             round(q.stage);
         }
@@ -122,7 +153,7 @@ fn stage(q: Process) {
 }
 
 pub fn place(q: Process) {
-    if q.place <= 10 {
+    if q.place <= Process::WORK_FINISH {
         mutator(q.place);
     } else {
         collector(q.place);
@@ -138,9 +169,9 @@ pub fn step(c: Choice, q: Process) {
         say(b"mutator ");
         tell(c.process);
     }
-    if c.kind == 1 {
+    if c.kind == Choice::COMMIT {
         say(b"commit");
-    } else if q.place == 0 {
+    } else if q.place == Process::TOP {
         operation(c.op);
     } else {
         place(q);

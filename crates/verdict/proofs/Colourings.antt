@@ -1,14 +1,15 @@
 -- The tests and sets of the colours are document 01's colours. Assumes nothing.
 --     white-exactly, grey-exactly, black-exactly        each colour
 --     black-to-white-exactly                            the black cells that have a field naming a white one
-use mathlib.Core.Path.{_≡_, refl, sym}
+use mathlib.Core.Path.{_≡_, refl}
 use mathlib.Core.Bool.{Bool, true, false, not, false≢true}
 use mathlib.Core.Logic.{_⊎_, inl, inr}
 use Prim.Native.Nat.{ℕ, _≤_}
 use native.Mathlib.Omega.{arith}
 use borrow.Author.Tests.{not-true}
-use Rattle.base.specs.Pick.{pick, sameBit}
-use Rattle.base.specs.Every.{_and_}
+use Rattle.base.specs.Pick.{sameBit}
+use Rattle.base.proofs.Picking.{picked}
+use Rattle.base.proofs.Bits.{same-bit, bit-same}
 use Rattle.base.proofs.Everies.{and-both}
 use Rattle.cells.specs.Sets.{maxSet, memberOf, Member}
 use Rattle.cells.proofs.Bools.{split, not-both}
@@ -25,20 +26,6 @@ use Rattle.verdict.specs.Statements.{WhiteExactly, GreyExactly, BlackExa
 use Rattle.verdict.proofs.Such.{such-from, such-has}
 
 -- ---- bits
-same-is : (a b : Bool) → sameBit a b ≡ true → a ≡ b
-unfolding sameBit
-same-is true true e = refl
-same-is true false e = absurd (false≢true e)
-same-is false true e = absurd (false≢true e)
-same-is false false e = refl
-
-is-same : (a b : Bool) → a ≡ b → sameBit a b ≡ true
-unfolding sameBit
-is-same true true e = refl
-is-same true false e = absurd (false≢true (sym e))
-is-same false true e = absurd (false≢true e)
-is-same false false e = refl
-
 not-of : (b : Bool) → (b ≡ true → ⊥) → not b ≡ true
 not-of true n = absurd (n refl)
 not-of false n = refl
@@ -51,10 +38,10 @@ white-exactly m c = (into, out)
     into : whiteOf m c ≡ true → White m c
     into p =
         let r = and-both (usedOf m c) (not (sameBit (markOf m c) (m .fm))) p in
-        record { occupied = r .0; unequal = λ e. not-both (is-same (markOf m c) (m .fm) e) (not-true (sameBit (markOf m c) (m .fm)) (r .1)) }
+        record { occupied = r .0; unequal = λ e. not-both (rw e (bit-same (m .fm))) (not-true (sameBit (markOf m c) (m .fm)) (r .1)) }
 
     out : White m c → whiteOf m c ≡ true
-    out w = rw (w .occupied) (not-of (sameBit (markOf m c) (m .fm)) (λ e. w .unequal (same-is (markOf m c) (m .fm) e)))
+    out w = rw (w .occupied) (not-of (sameBit (markOf m c) (m .fm)) (λ e. w .unequal (same-bit (markOf m c) (m .fm) e)))
 
 -- ---- grey
 abbrev Greyed : Process → ℕ → Type 0
@@ -116,11 +103,7 @@ names-white m c p = go (split (whiteOf m (fieldOf m c 0)))
 white-named : (m : Memory) (c d : ℕ) → Names m c d → White m d → namesWhiteOf m c ≡ true
 unfolding namesWhiteOf
 white-named m c d (first e z) w = rw (e, white-exactly m d .1 w)
-white-named m c d (second e z) w = rw (e, white-exactly m d .1 w) (whatever (whiteOf m (fieldOf m c 0)))
-  where
-    whatever : (b : Bool) → pick b true true ≡ true
-    whatever true = refl
-    whatever false = refl
+white-named m c d (second e z) w = rw (e, white-exactly m d .1 w) (picked (λ t. t ≡ true) (whiteOf m (fieldOf m c 0)) refl refl)
 
 pub black-to-white-exactly : BlackToWhiteExactly
 unfolding blackToWhiteOf blackNamesWhiteOf

@@ -4,7 +4,7 @@ use super::ground;
 use buffers::Store;
 use state::State;
 
-pub fn all() {
+fn roots() {
     // nothing free is reached
     ground::say(b"ground", ground::ground());
     // "A held reference that is itself free" (reading 8): the root 5, beside the root 1
@@ -18,6 +18,9 @@ pub fn all() {
     // "the least such free cell": 5 of 5 and 6
     two.roots = 48;
     ground::say(b"two free roots", ground::with_process(2, two));
+}
+
+fn honorary() {
     // "honorary roots": the old value 5 of a running store
     ground::say(
         b"honorary root",
@@ -28,6 +31,9 @@ pub fn all() {
         b"y is not held",
         ground::with_process(1, ground::storing(0, 5)),
     );
+}
+
+fn stores() {
     // "targets .. of pending field stores": 5, and the value is null
     let target = Store::Field {
         cell: 5,
@@ -44,6 +50,9 @@ pub fn all() {
     ground::say(b"value of a store", ground::with_store(2, value));
     // of any buffer: the collector's
     ground::say(b"store of the collector", ground::with_store(0, target));
+}
+
+fn not_held() {
     // "pending marks hold nothing" (reading 8)
     let mark = Store::Mark { cell: 5, bit: true };
     ground::say(b"pending mark", ground::with_store(1, mark));
@@ -51,6 +60,13 @@ pub fn all() {
     let mut busy = ground::process(1);
     busy.work = 16;
     ground::say(b"free cell on a list", ground::with_process(1, busy));
+}
+
+pub fn all() {
+    roots();
+    honorary();
+    stores();
+    not_held();
 }
 
 // The ground with field f of cell 4 naming d.

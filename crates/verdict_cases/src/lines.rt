@@ -48,6 +48,25 @@ fn line(name: &[u8], in_step: bool, kind: Kind, system: Handshake, mutator: Hand
 // "In step: no-op with both phases equal and one of Idle, IdleInit, InitMark, Mark; roots or work with both IdleMarkSweep."
 // On the line 0; a phase further mutator 2 is out; not in step, mutator 1 is out, but for work, whose two lines have the same phases; "A raised flag implies not in step."
 pub fn in_step() {
+    noop_in_step();
+    line(
+        b"in step, roots",
+        true,
+        Kind::Roots,
+        Handshake::IdleMarkSweep,
+        Handshake::IdleMarkSweep,
+    );
+    line(
+        b"in step, work",
+        true,
+        Kind::Work,
+        Handshake::IdleMarkSweep,
+        Handshake::IdleMarkSweep,
+    );
+}
+
+// The no-op lines of those in step.
+fn noop_in_step() {
     line(
         b"in step, no-op, Idle",
         true,
@@ -76,25 +95,30 @@ pub fn in_step() {
         Handshake::Mark,
         Handshake::Mark,
     );
+}
+
+// "Not in step (system, mutator): no-op with (Idle, IdleMarkSweep), (IdleInit, Idle), (InitMark, IdleInit), (Mark, InitMark); roots with (IdleMarkSweep,
+// Mark); work with both IdleMarkSweep." A raised flag is right here.
+pub fn not_in_step() {
+    noop_not_in_step();
     line(
-        b"in step, roots",
-        true,
+        b"not in step, roots",
+        false,
         Kind::Roots,
         Handshake::IdleMarkSweep,
-        Handshake::IdleMarkSweep,
+        Handshake::Mark,
     );
     line(
-        b"in step, work",
-        true,
+        b"not in step, work",
+        false,
         Kind::Work,
         Handshake::IdleMarkSweep,
         Handshake::IdleMarkSweep,
     );
 }
 
-// "Not in step (system, mutator): no-op with (Idle, IdleMarkSweep), (IdleInit, Idle), (InitMark, IdleInit), (Mark, InitMark); roots with (IdleMarkSweep,
-// Mark); work with both IdleMarkSweep." A raised flag is right here.
-pub fn not_in_step() {
+// The no-op lines of those not in step.
+fn noop_not_in_step() {
     line(
         b"not in step, no-op, Idle",
         false,
@@ -122,20 +146,6 @@ pub fn not_in_step() {
         Kind::Noop,
         Handshake::Mark,
         Handshake::InitMark,
-    );
-    line(
-        b"not in step, roots",
-        false,
-        Kind::Roots,
-        Handshake::IdleMarkSweep,
-        Handshake::Mark,
-    );
-    line(
-        b"not in step, work",
-        false,
-        Kind::Work,
-        Handshake::IdleMarkSweep,
-        Handshake::IdleMarkSweep,
     );
 }
 

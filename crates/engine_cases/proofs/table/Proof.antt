@@ -12,4 +12,4 @@ abbrev μ-loop : tie.MeasureT-loop
 μ-loop text s₀ at₀ s at = length text - at
 
 pub table-spec : {M : Type 1} → statement M
-table-spec = tie.close (tie.spec Inv-loop μ-loop (search needs) (search needs) (search needs) (search needs) (search needs) (search needs) (search needs) (search needs) (search needs) (λ c. search needs) (search needs) (search needs) (search needs) (search needs) (λ c. search needs))
+table-spec = tie.close (tie.spec Inv-loop μ-loop (search needs) (search needs) (search needs) (search needs) (search needs) (search needs) (search needs) (search needs) (λ c. search needs) (search needs) (search needs) (search needs) (search needs) (λ c. search needs))

@@ -1,18 +1,18 @@
--- `trace::chapter` is safe and ends. The loop's invariant: the place reached is within the text.
+-- `trace::run` is safe and ends. The loop's invariant: the place reached is within the text. Assumes nothing.
 use Prim.Native.Nat.{_≤_, _-_}
 use lib.ListN.{length}
 use borrow.Author.Needs.{needs}
-use Rattle.trace.proofs.chapter.Statement.{statement}
-use Rattle.trace.proofs.chapter.Tie as tie
+use Rattle.trace.proofs.run.Statement.{statement}
+use Rattle.trace.proofs.run.Tie as tie
 
 abbrev Inv-loop : tie.InvT-loop
-Inv-loop title text s₀ at₀ s at = at ≤ length text
+Inv-loop text s₀ at₀ s at = at ≤ length text
 
 abbrev μ-loop : tie.MeasureT-loop
-μ-loop title text s₀ at₀ s at = length text - at
+μ-loop text s₀ at₀ s at = length text - at
 
-pub chapter-spec : {M : Type 1} → statement M
-chapter-spec =
+pub run-spec : {M : Type 1} → statement M
+run-spec =
     tie.close
     (tie.spec
     Inv-loop
@@ -26,9 +26,8 @@ chapter-spec =
     (search needs)
     (search needs)
     (search needs)
-    (search needs)
-    (search needs)
     (λ c. search needs)
+    (search needs)
     (search needs)
     (search needs)
     (search needs)
