@@ -1,105 +1,88 @@
 // "Collector": rows 1 to 11 of its table, one small step each; the rounds are of crate `rounds`, the marks of crate `marking`.
-// Each is of the process that the choice c names, which is q now; a refusal returns the state as it came.
-use buffers::Entry;
+// Each is the turn of the process that the choice c names, which is q now; a refusal returns the process as it came.
 use buffers::Phase;
 use buffers::Store;
+use memory::Memory;
 use rounds::Round;
 use state::Answer;
 use state::Choice;
 use state::Hands;
 use state::Kind;
 use state::Process;
-use state::State;
+use state::turns::Act;
+use state::turns::Turn;
 ghost use mathlib.Core.Path.{_≡_};
-ghost use Rattle.collector.specs.Collectors.{writeStep, senseReadStep, senseWriteStep, initWriteStep, markWriteStep, allocWriteStep, emptied, taking, takeStep, scanning, readFirst, readSecond, afterMark, markStep, dropping, dropStep, sweepWriteStep, sweeping, sweepLookStep, freeStep, idleWriteStep, roundStep, writesOf, scanOf, collectorOf};
+ghost use Rattle.collector.specs.Collectors.{taking, scanning, afterMark, dropping, sweeping};
+ghost use Rattle.collector.specs.Turns.{writeTurn, senseReadTurn, senseWriteTurn, initWriteTurn, markWriteTurn, allocWriteTurn, takeTurn, readFirstTurn, readSecondTurn, markSiteTurn, dropTurn, sweepWriteTurn, sweepLookTurn, freeTurn, idleWriteTurn, rowRoundTurn, writesTurn, scanTurn, collectorTurn};
 
 // Row 2: "read fM"
-fn sense_read(s: State, c: Choice, mut q: Process) -> Answer
-    ensures { λ r. ⌜ r ≡ senseReadStep s c q ⌝ }
+fn sense_read(m: Memory, c: Choice, mut q: Process) -> Turn
+    ensures { λ r. ⌜ r ≡ senseReadTurn m c q ⌝ }
 {
     if !c.blank() {
-        return s.refused(Answer::NOT_OFFERED);
+        return Turn::stops(Answer::NOT_OFFERED, q);
     }
-    let m = s.memory;
     let l = m.look_sense(c.process);
     if l.no == 0 {
         q.place = Process::ROW2_WRITE;
         q.sense = l.bit;
-        return s.goes(c.process, q);
+        return Turn::goes(q);
     }
-    s.refused(l.no)
+    Turn::stops(l.no, q)
 }
 
-// A write of the collector: it appends the store, and the collector becomes q.
-fn write(s: State, c: Choice, store: Store, q: Process) -> Answer
-    ensures { λ r. ⌜ r ≡ writeStep s c store q ⌝ }
+// A write of the collector: the act appends the store, and the collector becomes next.
+fn write(c: Choice, store: Store, q: Process, next: Process) -> Turn
+    ensures { λ r. ⌜ r ≡ writeTurn c store q next ⌝ }
 {
     if !c.blank() {
-        return s.refused(Answer::NOT_OFFERED);
+        return Turn::stops(Answer::NOT_OFFERED, q);
     }
-    let m = s.memory;
-    let k = m.write(c.process, Entry { store });
-    if k.no == 0 {
-        let next = k.memory;
-        return s.acts(next, c.process, q);
-    }
-    s.refused(k.no)
+    Turn::does(Act::Writes(store), next)
 }
 
 // Row 2: "then write its opposite, which becomes the noted fM"
-fn sense_write(s: State, c: Choice, mut q: Process) -> Answer
-    ensures { λ r. ⌜ r ≡ senseWriteStep s c q ⌝ }
+fn sense_write(c: Choice, q: Process) -> Turn
+    ensures { λ r. ⌜ r ≡ senseWriteTurn c q ⌝ }
 {
     let bit = !q.sense;
-    q.place = Process::ROW3_ROUND;
-    q.stage = Process::FENCE;
-    q.sense = bit;
-    write(s, c, Store::Sense(bit), q)
+    let mut next = q;
+    next.place = Process::ROW3_ROUND;
+    next.stage = Process::FENCE;
+    next.sense = bit;
+    write(c, Store::Sense(bit), q, next)
 }
 
 // Row 4: "write phase Init"
-fn init_write(s: State, c: Choice, mut q: Process) -> Answer
-    ensures { λ r. ⌜ r ≡ initWriteStep s c q ⌝ }
+fn init_write(c: Choice, q: Process) -> Turn
+    ensures { λ r. ⌜ r ≡ initWriteTurn c q ⌝ }
 {
-    q.place = Process::ROW4_ROUND;
-    q.stage = Process::FENCE;
-    write(s, c, Store::Phase(Phase::Init), q)
+    let mut next = q;
+    next.place = Process::ROW4_ROUND;
+    next.stage = Process::FENCE;
+    write(c, Store::Phase(Phase::Init), q, next)
 }
 
 // Row 5: "write phase Mark"
-fn mark_write(s: State, c: Choice, mut q: Process) -> Answer
-    ensures { λ r. ⌜ r ≡ markWriteStep s c q ⌝ }
+fn mark_write(c: Choice, q: Process) -> Turn
+    ensures { λ r. ⌜ r ≡ markWriteTurn c q ⌝ }
 {
-    q.place = Process::ROW5_ALLOC;
-    write(s, c, Store::Phase(Phase::Mark), q)
+    let mut next = q;
+    next.place = Process::ROW5_ALLOC;
+    write(c, Store::Phase(Phase::Mark), q, next)
 }
 
 // Row 5: "write fA := noted fM"
-fn alloc_write(s: State, c: Choice, mut q: Process) -> Answer
-    ensures { λ r. ⌜ r ≡ allocWriteStep s c q ⌝ }
+fn alloc_write(c: Choice, q: Process) -> Turn
+    ensures { λ r. ⌜ r ≡ allocWriteTurn c q ⌝ }
 {
-    q.place = Process::ROW5_ROUND;
-    q.stage = Process::FENCE;
-    write(s, c, Store::AllocSense(q.sense), q)
+    let mut next = q;
+    next.place = Process::ROW5_ROUND;
+    next.stage = Process::FENCE;
+    write(c, Store::AllocSense(q.sense), q, next)
 }
 
-// "take the system's list (one step, emptying it ..)": the system's side.
-fn emptied(mut s: State) -> State
-    ensures { λ r. ⌜ r ≡ emptied s ⌝ }
-{
-    let h = s.hands;
-    let kind = h.kind;
-    let phase = h.phase;
-    let hands = Hands {
-        kind,
-        phase,
-        work: 0,
-    };
-    s.hands = hands;
-    s
-}
-
-// ".. it replaces the collector's own": the collector's side; "empty: row 9".
+// "it replaces the collector's own": the collector's side of a take; "empty: row 9".
 fn taking(work: u64, mut q: Process) -> Process
     ensures { λ r. ⌜ r ≡ taking work q ⌝ }
 {
@@ -112,15 +95,14 @@ fn taking(work: u64, mut q: Process) -> Process
     q
 }
 
-// Rows 6 and 8: "take the system's list"
-fn take(s: State, c: Choice, q: Process) -> Answer
-    ensures { λ r. ⌜ r ≡ takeStep s c q ⌝ }
+// Rows 6 and 8: "take the system's list (one step, emptying it; ..)": the act empties it.
+fn take(h: Hands, c: Choice, q: Process) -> Turn
+    ensures { λ r. ⌜ r ≡ takeTurn h c q ⌝ }
 {
     if !c.blank() {
-        return s.refused(Answer::NOT_OFFERED);
+        return Turn::stops(Answer::NOT_OFFERED, q);
     }
-    let h = s.hands;
-    emptied(s).goes(c.process, taking(h.work, q))
+    Turn::does(Act::Lists(0), taking(h.work, q))
 }
 
 // A field of x is read: its mark comes first, past it to the place `past` if it is null.
@@ -139,35 +121,33 @@ fn scanning(x: u8, value: u8, place: u8, past: u8, mut q: Process) -> Process
 }
 
 // Row 7: "x from its list, named at the first read: read field 0"
-fn read_first(s: State, c: Choice, q: Process) -> Answer
-    ensures { λ r. ⌜ r ≡ readFirst s c q ⌝ }
+fn read_first(m: Memory, c: Choice, q: Process) -> Turn
+    ensures { λ r. ⌜ r ≡ readFirstTurn m c q ⌝ }
 {
     if !c.names(q.work) {
-        return s.refused(Answer::NOT_OFFERED);
+        return Turn::stops(Answer::NOT_OFFERED, q);
     }
-    let m = s.memory;
     let l = m.look_field(c.process, c.x, 0);
     if l.no == 0 {
         let next = scanning(c.x, l.value, Process::ROW7_MARK0, Process::ROW7_READ1, q);
-        return s.goes(c.process, next);
+        return Turn::goes(next);
     }
-    s.refused(l.no)
+    Turn::stops(l.no, q)
 }
 
 // Row 7: "read field 1"
-fn read_second(s: State, c: Choice, q: Process) -> Answer
-    ensures { λ r. ⌜ r ≡ readSecond s c q ⌝ }
+fn read_second(m: Memory, c: Choice, q: Process) -> Turn
+    ensures { λ r. ⌜ r ≡ readSecondTurn m c q ⌝ }
 {
     if !c.blank() {
-        return s.refused(Answer::NOT_OFFERED);
+        return Turn::stops(Answer::NOT_OFFERED, q);
     }
-    let m = s.memory;
     let l = m.look_field(c.process, q.x, 1);
     if l.no == 0 {
         let next = scanning(q.x, l.value, Process::ROW7_MARK1, Process::ROW7_DROP, q);
-        return s.goes(c.process, next);
+        return Turn::goes(next);
     }
-    s.refused(l.no)
+    Turn::stops(l.no, q)
 }
 
 // Where the collector goes when a mark of row 7 is over.
@@ -183,23 +163,28 @@ fn after_mark(mut q: Process) -> Process
 }
 
 // Row 7: "mark it"
-fn mark(s: State, c: Choice, q: Process) -> Answer
-    ensures { λ r. ⌜ r ≡ markStep s c q ⌝ }
+fn mark(m: Memory, c: Choice, q: Process) -> Turn
+    ensures { λ r. ⌜ r ≡ markSiteTurn m c q ⌝ }
 {
     if !c.blank() {
-        return s.refused(Answer::NOT_OFFERED);
+        return Turn::stops(Answer::NOT_OFFERED, q);
     }
-    let m = s.memory;
     let k = marking::step(m, c.process, q);
-    let next = k.memory;
-    let p = k.process;
-    if k.no == 0 {
-        if k.over {
-            return s.acts(next, c.process, after_mark(p));
-        }
-        return s.acts(next, c.process, p);
+    let process = k.process;
+    let act = k.act;
+    if k.over {
+        let next = after_mark(process);
+        return Turn {
+            process: next,
+            act,
+            no: k.no,
+        };
     }
-    s.refused(k.no)
+    Turn {
+        process,
+        act,
+        no: k.no,
+    }
 }
 
 // x is off the list: "until empty", then row 8.
@@ -218,23 +203,23 @@ fn dropping(work: u64, mut q: Process) -> Process
 }
 
 // Row 7: "drop x (one step)"
-fn drop(s: State, c: Choice, q: Process) -> Answer
-    ensures { λ r. ⌜ r ≡ dropStep s c q ⌝ }
+fn drop(c: Choice, q: Process) -> Turn
+    ensures { λ r. ⌜ r ≡ dropTurn c q ⌝ }
 {
     if !c.blank() {
-        return s.refused(Answer::NOT_OFFERED);
+        return Turn::stops(Answer::NOT_OFFERED, q);
     }
-    s.goes(c.process, dropping(cells::remove(q.work, q.x), q))
+    Turn::goes(dropping(cells::remove(q.work, q.x), q))
 }
 
 // Row 9: "write phase Sweep"; every cell number is then left for row 10.
-fn sweep_write(s: State, c: Choice, mut q: Process) -> Answer
-    ensures { λ r. ⌜ r ≡ sweepWriteStep s c q ⌝ }
+fn sweep_write(m: Memory, c: Choice, q: Process) -> Turn
+    ensures { λ r. ⌜ r ≡ sweepWriteTurn m c q ⌝ }
 {
-    let m = s.memory;
-    q.place = Process::ROW10_LOOK;
-    q.left = cells::full(m.cells);
-    write(s, c, Store::Phase(Phase::Sweep), q)
+    let mut next = q;
+    next.place = Process::ROW10_LOOK;
+    next.left = cells::full(m.cells);
+    write(c, Store::Phase(Phase::Sweep), q, next)
 }
 
 // The cell in hand is done: to the next cell left, or to row 11.
@@ -251,109 +236,146 @@ fn sweeping(mut q: Process) -> Process
 }
 
 // Row 10: "x naming one left: look at the mark; occupied and unequal to noted fM: free it, as a further step"
-fn sweep_look(s: State, c: Choice, mut q: Process) -> Answer
-    ensures { λ r. ⌜ r ≡ sweepLookStep s c q ⌝ }
+fn sweep_look(m: Memory, c: Choice, mut q: Process) -> Turn
+    ensures { λ r. ⌜ r ≡ sweepLookTurn m c q ⌝ }
 {
     if !c.names(q.left) {
-        return s.refused(Answer::NOT_OFFERED);
+        return Turn::stops(Answer::NOT_OFFERED, q);
     }
-    let m = s.memory;
     let l = m.look_swept(c.process, c.x);
     if l.no == 0 {
         q.left = cells::remove(q.left, c.x);
         if l.used {
             if base::same(q.sense, l.bit) {
-                return s.goes(c.process, sweeping(q));
+                return Turn::goes(sweeping(q));
             }
             q.place = Process::ROW10_FREE;
             q.x = c.x;
-            return s.goes(c.process, q);
+            return Turn::goes(q);
         }
-        return s.goes(c.process, sweeping(q));
+        return Turn::goes(sweeping(q));
     }
-    s.refused(l.no)
+    Turn::stops(l.no, q)
 }
 
 // Row 10: "free it"
-fn free(s: State, c: Choice, q: Process) -> Answer
-    ensures { λ r. ⌜ r ≡ freeStep s c q ⌝ }
+fn free(c: Choice, q: Process) -> Turn
+    ensures { λ r. ⌜ r ≡ freeTurn c q ⌝ }
 {
     if !c.blank() {
-        return s.refused(Answer::NOT_OFFERED);
+        return Turn::stops(Answer::NOT_OFFERED, q);
     }
-    let m = s.memory;
-    let k = m.free(c.process, q.x);
-    if k.no == 0 {
-        let next = k.memory;
-        return s.acts(next, c.process, sweeping(q));
-    }
-    s.refused(k.no)
+    Turn::does(Act::Frees(q.x), sweeping(q))
 }
 
 // Row 11: "write phase Idle, row 1"
-fn idle_write(s: State, c: Choice, mut q: Process) -> Answer
-    ensures { λ r. ⌜ r ≡ idleWriteStep s c q ⌝ }
+fn idle_write(c: Choice, q: Process) -> Turn
+    ensures { λ r. ⌜ r ≡ idleWriteTurn c q ⌝ }
 {
-    q.place = Process::ROW1_ROUND;
-    q.stage = Process::FENCE;
-    write(s, c, Store::Phase(Phase::Idle), q)
+    let mut next = q;
+    next.place = Process::ROW1_ROUND;
+    next.stage = Process::FENCE;
+    write(c, Store::Phase(Phase::Idle), q, next)
 }
 
 // A step of the round with this type, and the place and stage that follow it.
-fn round(s: State, c: Choice, q: Process, kind: Kind, place: u8, stage: u8) -> Answer
-    ensures { λ r. ⌜ r ≡ roundStep s c q kind place stage ⌝ }
+fn round(m: Memory, up: bool, c: Choice, q: Process, kind: Kind, place: u8, stage: u8) -> Turn
+    ensures { λ r. ⌜ r ≡ rowRoundTurn m up c q kind place stage ⌝ }
 {
-    rounds::step(s, c, q, Round { kind, place, stage })
+    rounds::step(m, up, c, q, Round { kind, place, stage })
 }
 
-// Rows 2, 4 and 5: the reads and writes between the no-op rounds. A place that is none of the collector's is malformed.
-fn writes(s: State, c: Choice, q: Process) -> Answer
-    ensures { λ r. ⌜ r ≡ writesOf s c q ⌝ }
+// Rows 2, 4 and 5: the reads and writes between the no-op rounds. `step` and `scan` have taken the other places: a number left is none of the collector's, and malformed.
+fn writes(m: Memory, c: Choice, q: Process) -> Turn
+    ensures { λ r. ⌜ r ≡ writesTurn m c q ⌝ }
 {
     let place = q.place;
     match place {
-        Process::ROW2_READ => sense_read(s, c, q),
-        Process::ROW2_WRITE => sense_write(s, c, q),
-        Process::ROW4_WRITE => init_write(s, c, q),
-        Process::ROW5_PHASE => mark_write(s, c, q),
-        Process::ROW5_ALLOC => alloc_write(s, c, q),
-        _ => s.refused(Answer::MALFORMED),
+        0..=Process::ROW1_ROUND => Turn::stops(Answer::MALFORMED, q),
+        Process::ROW2_READ => sense_read(m, c, q),
+        Process::ROW2_WRITE => sense_write(c, q),
+        Process::ROW3_ROUND => Turn::stops(Answer::MALFORMED, q),
+        Process::ROW4_WRITE => init_write(c, q),
+        Process::ROW4_ROUND => Turn::stops(Answer::MALFORMED, q),
+        Process::ROW5_PHASE => mark_write(c, q),
+        Process::ROW5_ALLOC => alloc_write(c, q),
+        Process::ROW5_ROUND..=255 => Turn::stops(Answer::MALFORMED, q),
     }
 }
 
 // Rows 7 to 11, but for the round of row 8.
-fn scan(s: State, c: Choice, q: Process) -> Answer
-    ensures { λ r. ⌜ r ≡ scanOf s c q ⌝ }
+fn scan(m: Memory, h: Hands, c: Choice, q: Process) -> Turn
+    ensures { λ r. ⌜ r ≡ scanTurn m h c q ⌝ }
 {
     let place = q.place;
     match place {
-        Process::ROW7_READ0 => read_first(s, c, q),
-        Process::ROW7_MARK0 => mark(s, c, q),
-        Process::ROW7_READ1 => read_second(s, c, q),
-        Process::ROW7_MARK1 => mark(s, c, q),
-        Process::ROW7_DROP => drop(s, c, q),
-        Process::ROW8_TAKE => take(s, c, q),
-        Process::ROW9_WRITE => sweep_write(s, c, q),
-        Process::ROW10_LOOK => sweep_look(s, c, q),
-        Process::ROW10_FREE => free(s, c, q),
-        Process::ROW11_WRITE => idle_write(s, c, q),
-        _ => writes(s, c, q),
+        Process::ROW7_READ0 => read_first(m, c, q),
+        Process::ROW7_MARK0 => mark(m, c, q),
+        Process::ROW7_READ1 => read_second(m, c, q),
+        Process::ROW7_MARK1 => mark(m, c, q),
+        Process::ROW7_DROP => drop(c, q),
+        Process::ROW8_TAKE => take(h, c, q),
+        Process::ROW9_WRITE => sweep_write(m, c, q),
+        Process::ROW10_LOOK => sweep_look(m, c, q),
+        Process::ROW10_FREE => free(c, q),
+        Process::ROW11_WRITE => idle_write(c, q),
+        _ => writes(m, c, q),
     }
 }
 
-// The step at the collector's place: the six rounds and row 6's take here, the other rows below.
-pub fn step(s: State, c: Choice, q: Process) -> Answer
-    ensures { λ r. ⌜ r ≡ collectorOf s c q ⌝ }
+// The step at the collector's place: the six rounds and row 6's take here, the other rows below; `up` is the flag of the mutator that x names.
+pub fn step(m: Memory, h: Hands, up: bool, c: Choice, q: Process) -> Turn
+    ensures { λ r. ⌜ r ≡ collectorTurn m h up c q ⌝ }
 {
     let place = q.place;
     match place {
-        Process::ROW1_ROUND => round(s, c, q, Kind::Noop, Process::ROW2_READ, Process::NO_STAGE),
-        Process::ROW3_ROUND => round(s, c, q, Kind::Noop, Process::ROW4_WRITE, Process::NO_STAGE),
-        Process::ROW4_ROUND => round(s, c, q, Kind::Noop, Process::ROW5_PHASE, Process::NO_STAGE),
-        Process::ROW5_ROUND => round(s, c, q, Kind::Noop, Process::ROW6_ROUND, Process::FENCE),
-        Process::ROW6_ROUND => round(s, c, q, Kind::Roots, Process::ROW6_TAKE, Process::NO_STAGE),
-        Process::ROW6_TAKE => take(s, c, q),
-        Process::ROW8_ROUND => round(s, c, q, Kind::Work, Process::ROW8_TAKE, Process::NO_STAGE),
-        _ => scan(s, c, q),
+        Process::ROW1_ROUND => round(
+            m,
+            up,
+            c,
+            q,
+            Kind::Noop,
+            Process::ROW2_READ,
+            Process::NO_STAGE,
+        ),
+        Process::ROW3_ROUND => round(
+            m,
+            up,
+            c,
+            q,
+            Kind::Noop,
+            Process::ROW4_WRITE,
+            Process::NO_STAGE,
+        ),
+        Process::ROW4_ROUND => round(
+            m,
+            up,
+            c,
+            q,
+            Kind::Noop,
+            Process::ROW5_PHASE,
+            Process::NO_STAGE,
+        ),
+        Process::ROW5_ROUND => round(m, up, c, q, Kind::Noop, Process::ROW6_ROUND, Process::FENCE),
+        Process::ROW6_ROUND => round(
+            m,
+            up,
+            c,
+            q,
+            Kind::Roots,
+            Process::ROW6_TAKE,
+            Process::NO_STAGE,
+        ),
+        Process::ROW6_TAKE => take(h, c, q),
+        Process::ROW8_ROUND => round(
+            m,
+            up,
+            c,
+            q,
+            Kind::Work,
+            Process::ROW8_TAKE,
+            Process::NO_STAGE,
+        ),
+        _ => scan(m, h, c, q),
     }
 }

@@ -1,3 +1,4 @@
+pub mod Turns
 pub mod Located
 pub mod CommitView
 pub mod Theorems

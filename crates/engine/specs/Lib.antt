@@ -1,3 +1,4 @@
 pub mod Steps
+pub mod Turns
 pub mod Statements
 pub mod Runs

@@ -1,36 +1,52 @@
 // One record's step: the checks in number order, and the dispatch over kind, process, place and stage.
+pub mod settles;
+
+use memory::Memory;
 use state::Answer;
 use state::Choice;
+use state::Hands;
+use state::Process;
 use state::State;
+use state::turns::Act;
+use state::turns::Turn;
 ghost use mathlib.Core.Path.{_≡_};
-ghost use Rattle.engine.specs.Steps.{commitStep, ownStep, innerOf, stepOf};
+ghost use Rattle.engine.specs.Steps.{innerOf, stepOf};
+ghost use Rattle.engine.specs.Turns.{commitTurn, ownTurn, innerTurn};
 
-// "A commit applies one's oldest store, unblocked." It uses no argument.
-fn commit(mut s: State, c: Choice) -> Answer
-    ensures { λ r. ⌜ r ≡ commitStep s c ⌝ }
+// "A commit applies one's oldest store, unblocked." It uses no argument, and leaves the process as it is.
+fn commit(c: Choice, q: Process) -> Turn
+    ensures { λ r. ⌜ r ≡ commitTurn c q ⌝ }
 {
     if !c.blank() {
-        return s.refused(Answer::NOT_OFFERED);
+        return Turn::stops(Answer::NOT_OFFERED, q);
     }
-    let m = s.memory;
-    let k = m.commit(c.process);
-    if k.no == 0 {
-        let next = k.memory;
-        s.memory = next;
-        return s.taken();
-    }
-    s.refused(k.no)
+    Turn::does(Act::Commits, q)
 }
 
 // An own step of the process, by its program.
-fn own(s: State, c: Choice) -> Answer
-    ensures { λ r. ⌜ r ≡ ownStep s c ⌝ }
+fn own(m: Memory, h: Hands, up: bool, c: Choice, q: Process) -> Turn
+    ensures { λ r. ⌜ r ≡ ownTurn m h up c q ⌝ }
 {
-    let q = s.process(c.process);
     if c.process == 0 {
-        return collector::step(s, c, q);
+        return collector::step(m, h, up, c, q);
     }
-    mutator::step(s, c, q)
+    mutator::step(m, h, c, q)
+}
+
+// Checks 2 and 3, and the turn of the process that c names, which is q; `up` is the flag of the mutator that c.x names.
+// It takes no state: so a run can keep one and change it in place.
+pub fn turn(m: Memory, h: Hands, up: bool, c: Choice, q: Process) -> Turn
+    ensures { λ r. ⌜ r ≡ innerTurn m h up c q ⌝ }
+{
+    if m.processes <= c.process {
+        return Turn::stops(Answer::NO_PROCESS, q);
+    }
+    let kind = c.kind;
+    match kind {
+        Choice::OWN => own(m, h, up, c, q),
+        Choice::COMMIT => commit(c, q),
+        2..=255 => Turn::stops(Answer::NO_KIND, q),
+    }
 }
 
 // Checks 2 and 3, and the step: for a state that is known to be well formed, as every state of a run from an opening is.
@@ -38,15 +54,12 @@ pub fn inner(s: State, c: Choice) -> Answer
     ensures { λ r. ⌜ r ≡ innerOf s c ⌝ }
 {
     let m = s.memory;
-    if m.processes <= c.process {
-        return s.refused(Answer::NO_PROCESS);
-    }
-    let kind = c.kind;
-    match kind {
-        Choice::OWN => own(s, c),
-        Choice::COMMIT => commit(s, c),
-        2..=255 => s.refused(Answer::NO_KIND),
-    }
+    let h = s.hands;
+    let q = s.process(c.process);
+    let other = s.process(c.x);
+    let part = other.part;
+    let t = turn(m, h, part.raised, c, q);
+    settles::settled(s, c.process, t)
 }
 
 // Any state, any choice: "Checks run in number order."

@@ -1,20 +1,21 @@
 // "Marking a cell r": seven steps, one function each, for any process p, which is q now, at any site of its program.
 // A mark step says whether the mark is over; its site says where the process goes then.
-use buffers::Entry;
 use buffers::Phase;
 use buffers::Store;
 use memory::Memory;
 use state::Answer;
 use state::Process;
+use state::turns::Act;
 ghost use mathlib.Core.Path.{_≡_};
-ghost use Rattle.marking.specs.Marks.{markedCell, overOf, isIdle, goesOn, ends, stopsOf, lookStep, senseStep, phaseStep, lockStep, againStep, writeStep, unlockStep, markOf};
+ghost use Rattle.marking.specs.Marks.{markedCell, overOf, isIdle};
+ghost use Rattle.marking.specs.Turns.{onTurn, endTurn, stopTurn, lookTurn, senseTurn, phaseTurn, lockTurn, againTurn, writeTurn, unlockTurn, markTurn};
 
-// A mark step's answer: document 01's number, 0 for taken; whether the mark is over; memory and the process after it.
+// A mark step's turn: the process after it; its act; document 01's number, 0 for taken; whether the mark is over.
 pub struct Marked {
+    pub process: Process,
+    pub act: Act,
     pub no: u8,
     pub over: bool,
-    pub memory: Memory,
-    pub process: Process,
 }
 
 // The cell being marked: the old value or y of a running store, else the one noted.
@@ -57,161 +58,146 @@ fn is_idle(phase: Phase) -> bool
 }
 
 impl Marked {
-    // Taken, and the mark goes on.
-    fn on(memory: Memory, process: Process) -> Marked
-        ensures { λ r. ⌜ r ≡ goesOn memory process ⌝ }
+    // The mark goes on, where the act goes through.
+    fn on(act: Act, process: Process) -> Marked
+        ensures { λ r. ⌜ r ≡ onTurn act process ⌝ }
     {
         Marked {
+            process,
+            act,
             no: Answer::TAKEN,
             over: false,
-            memory,
-            process,
         }
     }
 
-    // Taken, and the mark is over.
-    fn end(memory: Memory, p: u8, q: Process) -> Marked
-        ensures { λ r. ⌜ r ≡ ends memory p q ⌝ }
+    // The mark is over, where the act goes through.
+    fn end(act: Act, p: u8, q: Process) -> Marked
+        ensures { λ r. ⌜ r ≡ endTurn act p q ⌝ }
     {
         let process = over(p, q);
         Marked {
+            process,
+            act,
             no: Answer::TAKEN,
             over: true,
-            memory,
-            process,
         }
     }
 
     // Refused.
-    fn stop(no: u8, memory: Memory, process: Process) -> Marked
-        ensures { λ r. ⌜ r ≡ stopsOf no memory process ⌝ }
+    fn stop(no: u8, process: Process) -> Marked
+        ensures { λ r. ⌜ r ≡ stopTurn no process ⌝ }
     {
         Marked {
+            process,
+            act: Act::Nothing,
             no,
             over: false,
-            memory,
-            process,
         }
     }
 }
 
 // "look at r's mark"
 pub fn look(m: Memory, p: u8, mut q: Process) -> Marked
-    ensures { λ r. ⌜ r ≡ lookStep m p q ⌝ }
+    ensures { λ r. ⌜ r ≡ lookTurn m p q ⌝ }
 {
     let l = m.look_mark(p, cell(q));
     if l.no == 0 {
         q.stage = Process::SENSE;
         q.look = l.bit;
-        return Marked::on(m, q);
+        return Marked::on(Act::Nothing, q);
     }
-    Marked::stop(l.no, m, q)
+    Marked::stop(l.no, q)
 }
 
 // "read fM, stop if equal": the value read becomes the noted fM.
 fn sense(m: Memory, p: u8, mut q: Process) -> Marked
-    ensures { λ r. ⌜ r ≡ senseStep m p q ⌝ }
+    ensures { λ r. ⌜ r ≡ senseTurn m p q ⌝ }
 {
     let l = m.look_sense(p);
     if l.no == 0 {
         q.sense = l.bit;
         if base::same(q.look, l.bit) {
-            return Marked::end(m, p, q);
+            return Marked::end(Act::Nothing, p, q);
         }
         q.stage = Process::PHASE;
-        return Marked::on(m, q);
+        return Marked::on(Act::Nothing, q);
     }
-    Marked::stop(l.no, m, q)
+    Marked::stop(l.no, q)
 }
 
 // "read phase, stop if Idle"
 fn phase(m: Memory, p: u8, mut q: Process) -> Marked
-    ensures { λ r. ⌜ r ≡ phaseStep m p q ⌝ }
+    ensures { λ r. ⌜ r ≡ phaseTurn m p q ⌝ }
 {
     let l = m.look_phase(p);
     if l.no == 0 {
         let seen = l.phase;
         if is_idle(seen) {
-            return Marked::end(m, p, q);
+            return Marked::end(Act::Nothing, p, q);
         }
         q.stage = Process::LOCK;
-        return Marked::on(m, q);
+        return Marked::on(Act::Nothing, q);
     }
-    Marked::stop(l.no, m, q)
+    Marked::stop(l.no, q)
 }
 
 // "lock"
-fn lock(m: Memory, p: u8, mut q: Process) -> Marked
-    ensures { λ r. ⌜ r ≡ lockStep m p q ⌝ }
+fn lock(mut q: Process) -> Marked
+    ensures { λ r. ⌜ r ≡ lockTurn q ⌝ }
 {
-    let k = m.take_lock(p);
-    let next = k.memory;
-    if k.no == 0 {
-        q.stage = Process::AGAIN;
-        return Marked::on(next, q);
-    }
-    Marked::stop(k.no, m, q)
+    q.stage = Process::AGAIN;
+    Marked::on(Act::Locks, q)
 }
 
 // "look again; if the two looks agree, write"
 fn again(m: Memory, p: u8, mut q: Process) -> Marked
-    ensures { λ r. ⌜ r ≡ againStep m p q ⌝ }
+    ensures { λ r. ⌜ r ≡ againTurn m p q ⌝ }
 {
     let l = m.look_mark(p, cell(q));
     if l.no == 0 {
         if base::same(q.look, l.bit) {
             q.stage = Process::WRITE;
-            return Marked::on(m, q);
+            return Marked::on(Act::Nothing, q);
         }
         q.stage = Process::UNLOCK;
-        return Marked::on(m, q);
+        return Marked::on(Act::Nothing, q);
     }
-    Marked::stop(l.no, m, q)
+    Marked::stop(l.no, q)
 }
 
 // "write mark := noted fM (r is now being greyed)"
-fn write(m: Memory, p: u8, mut q: Process) -> Marked
-    ensures { λ r. ⌜ r ≡ writeStep m p q ⌝ }
+fn write(mut q: Process) -> Marked
+    ensures { λ r. ⌜ r ≡ writeTurn q ⌝ }
 {
     let cell = cell(q);
     let store = Store::Mark { cell, bit: q.sense };
-    let k = m.write(p, Entry { store });
-    let next = k.memory;
-    if k.no == 0 {
-        q.stage = Process::UNLOCK;
-        q.grey = cell;
-        return Marked::on(next, q);
-    }
-    Marked::stop(k.no, m, q)
+    q.stage = Process::UNLOCK;
+    q.grey = cell;
+    Marked::on(Act::Writes(store), q)
 }
 
 // "unlock": it "also puts a winner's r on its list and ends its greying".
-fn unlock(m: Memory, p: u8, mut q: Process) -> Marked
-    ensures { λ r. ⌜ r ≡ unlockStep m p q ⌝ }
+fn unlock(p: u8, mut q: Process) -> Marked
+    ensures { λ r. ⌜ r ≡ unlockTurn p q ⌝ }
 {
-    let k = m.leave_lock(p);
-    let next = k.memory;
-    if k.no == 0 {
-        q.work = cells::add(q.work, q.grey);
-        return Marked::end(next, p, q);
-    }
-    Marked::stop(k.no, m, q)
+    q.work = cells::add(q.work, q.grey);
+    Marked::end(Act::Unlocks, p, q)
 }
 
 // The step at the stage of a mark. A stage that is none is malformed.
 pub fn step(m: Memory, p: u8, q: Process) -> Marked
-    ensures { λ r. ⌜ r ≡ markOf m p q ⌝ }
+    ensures { λ r. ⌜ r ≡ markTurn m p q ⌝ }
 {
     let stage = q.stage;
     match stage {
-        0 => Marked::stop(Answer::MALFORMED, m, q),
+        0 => Marked::stop(Answer::MALFORMED, q),
         Process::LOOK => look(m, p, q),
         Process::SENSE => sense(m, p, q),
         Process::PHASE => phase(m, p, q),
-        Process::LOCK => lock(m, p, q),
+        Process::LOCK => lock(q),
         Process::AGAIN => again(m, p, q),
-        Process::WRITE => write(m, p, q),
-        Process::UNLOCK => unlock(m, p, q),
-        8..=255 => Marked::stop(Answer::MALFORMED, m, q),
+        Process::WRITE => write(q),
+        Process::UNLOCK => unlock(p, q),
+        8..=255 => Marked::stop(Answer::MALFORMED, q),
     }
 }

@@ -15,11 +15,10 @@ use Rattle.state.specs.declared.Process.{Process}
 use Rattle.state.specs.declared.State.{State}
 use Rattle.state.specs.declared.Choice.{Choice}
 use Rattle.state.specs.declared.Answer.{Answer}
-use Rattle.state.specs.Codes.{malformed, notOffered, flagDown, top, storeMarkOld, storeMarkY, storeWrite, noopFence, noopFinish, rootsFence, rootsMark, rootsFinish, workFence, workFinish, noStage, lookStage}
+use Rattle.state.specs.Codes.{malformed, notOffered, flagDown, top, storeMarkOld, storeMarkY, storeWrite, noopFence, noopFinish, rootsFence, rootsMark, rootsFinish, workFence, workFinish, lookStage}
 use Rattle.state.specs.States.{nextOf, at, noting, leaving, marking, listing, shaking, withHands, refusedOf, goesOf, actsOf}
 use Rattle.state.specs.Choices.{isBlank, isNaming, isBare, isOfX, isCell}
-use Rattle.marking.specs.declared.Marked.{Marked}
-use Rattle.marking.specs.Marks.{lookStep, markOf}
+use Rattle.marking.specs.Marks.{MarkAnswer, lookStep, markOf}
 
 -- ---- "At top the choice names an operation: 0 allocate free cell x (mark = memory's fA, null fields, x becomes a root)"
 unfoldable pub allocateStep : State → Choice → Process → Answer
@@ -103,7 +102,7 @@ topOf s c q =
     (refusedOf notOffered s))))))
 
 -- ---- a mark step of the mutator: refused, or the process goes on, past the mark where it is over
-unfoldable pub marks : State → Choice → Marked → Answer
+unfoldable pub marks : State → Choice → MarkAnswer → Answer
 marks s c k =
     pick (eqb (k .no) 0)
     (pick (k .over) (actsOf s (k .memory) (c .process) (afterMark (k .process))) (actsOf s (k .memory) (c .process) (k .process)))

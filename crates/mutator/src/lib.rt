@@ -1,7 +1,8 @@
 // "Mutator": a mutator's program. One small step for each operation at the top and for each place below it.
-// Each is of the process that the choice c names, which is q now; a refusal returns the state as it came.
-use buffers::Entry;
+// Each is of the process that the choice c names, which is q now, over memory m and the system's part h; it answers a turn.
 use buffers::Store;
+use marking::Marked;
+use memory::Memory;
 use state::Answer;
 use state::Choice;
 use state::Hands;
@@ -9,64 +10,71 @@ use state::Handshake;
 use state::Kind;
 use state::Part;
 use state::Process;
-use state::State;
+use state::turns::Act;
+use state::turns::Turn;
 ghost use mathlib.Core.Path.{_≡_};
-ghost use Rattle.mutator.specs.Mutators.{allocateStep, dropStep, readStep, isStore, storing, storeStep, fenceStep, answerPlace, answerStep, topOf, afterMark, marks, markStep, storeWriteStep, pastFence, answerFenceStep, rootsStep, stepping, handing, finishNoop, finishRoots, finishWork, mutatorOf};
+ghost use Rattle.buffers.specs.Fits.{isCellOf};
+ghost use Rattle.marking.specs.Turns.{siteTurn};
+ghost use Rattle.mutator.specs.Mutators.{isStore, storing, answerPlace, afterMark, pastFence, stepping};
+ghost use Rattle.mutator.specs.Turns.{allocateTurn, dropTurn, readTurn, storeTurn, fenceTurn, answerTurn, topTurn, markSiteTurn, storeWriteTurn, answerFenceTurn, rootsTurn, finishNoopTurn, finishRootsTurn, finishWorkTurn, mutatorTurn};
+
+// "cell 0 or above N" is not one.
+fn is_cell(n: u8, x: u8) -> bool
+    ensures { λ r. ⌜ r ≡ isCellOf n x ⌝ }
+{
+    if 0 < x {
+        return x <= n;
+    }
+    false
+}
 
 // "0 allocate free cell x (mark = memory's fA, null fields, x becomes a root)"
-fn allocate(s: State, c: Choice, mut q: Process) -> Answer
-    ensures { λ r. ⌜ r ≡ allocateStep s c q ⌝ }
+fn allocate(m: Memory, c: Choice, mut q: Process) -> Turn
+    ensures { λ r. ⌜ r ≡ allocateTurn m c q ⌝ }
 {
     if !c.of_x() {
-        return s.refused(Answer::NOT_OFFERED);
+        return Turn::stops(Answer::NOT_OFFERED, q);
     }
-    if !s.is_cell(c.x) {
-        return s.refused(Answer::NOT_OFFERED);
+    if !is_cell(m.cells, c.x) {
+        return Turn::stops(Answer::NOT_OFFERED, q);
     }
-    let m = s.memory;
-    let k = m.allocate(c.process, c.x);
-    if k.no == 0 {
-        let next = k.memory;
-        q.roots = cells::add(q.roots, c.x);
-        return s.acts(next, c.process, q);
-    }
-    s.refused(k.no)
+    q.roots = cells::add(q.roots, c.x);
+    Turn::does(Act::Allocates(c.x), q)
 }
 
 // "1 drop root x"
-fn drop(s: State, c: Choice, mut q: Process) -> Answer
-    ensures { λ r. ⌜ r ≡ dropStep s c q ⌝ }
+fn drop(c: Choice, mut q: Process) -> Turn
+    ensures { λ r. ⌜ r ≡ dropTurn c q ⌝ }
 {
     if !c.of_x() {
-        return s.refused(Answer::NOT_OFFERED);
+        return Turn::stops(Answer::NOT_OFFERED, q);
     }
     if !cells::member(q.roots, c.x) {
-        return s.refused(Answer::NOT_OFFERED);
+        return Turn::stops(Answer::NOT_OFFERED, q);
     }
     q.roots = cells::remove(q.roots, c.x);
-    s.goes(c.process, q)
+    Turn::goes(q)
 }
 
 // "2 read field f of root x, a non-null value becomes a root"
-fn read(s: State, c: Choice, mut q: Process) -> Answer
-    ensures { λ r. ⌜ r ≡ readStep s c q ⌝ }
+fn read(m: Memory, c: Choice, mut q: Process) -> Turn
+    ensures { λ r. ⌜ r ≡ readTurn m c q ⌝ }
 {
     if 1 < c.f {
-        return s.refused(Answer::NOT_OFFERED);
+        return Turn::stops(Answer::NOT_OFFERED, q);
     }
     if c.y != 0 {
-        return s.refused(Answer::NOT_OFFERED);
+        return Turn::stops(Answer::NOT_OFFERED, q);
     }
     if !cells::member(q.roots, c.x) {
-        return s.refused(Answer::NOT_OFFERED);
+        return Turn::stops(Answer::NOT_OFFERED, q);
     }
-    let m = s.memory;
     let l = m.look_field(c.process, c.x, c.f);
     if l.no == 0 {
         q.roots = cells::add(q.roots, l.value);
-        return s.goes(c.process, q);
+        return Turn::goes(q);
     }
-    s.refused(l.no)
+    Turn::stops(l.no, q)
 }
 
 // What "3 store y (a root or 0) in field f of root x" offers.
@@ -101,33 +109,31 @@ fn storing(c: Choice, old: u8, mut q: Process) -> Process
 }
 
 // "Store: the first step reads the old value"
-fn store(s: State, c: Choice, q: Process) -> Answer
-    ensures { λ r. ⌜ r ≡ storeStep s c q ⌝ }
+fn store(m: Memory, c: Choice, q: Process) -> Turn
+    ensures { λ r. ⌜ r ≡ storeTurn m c q ⌝ }
 {
     if !is_store(c, q) {
-        return s.refused(Answer::NOT_OFFERED);
+        return Turn::stops(Answer::NOT_OFFERED, q);
     }
-    let m = s.memory;
     let l = m.look_field(c.process, c.x, c.f);
     if l.no == 0 {
-        return s.goes(c.process, storing(c, l.value, q));
+        return Turn::goes(storing(c, l.value, q));
     }
-    s.refused(l.no)
+    Turn::stops(l.no, q)
 }
 
 // "4 fence"
-fn fence(s: State, c: Choice, q: Process) -> Answer
-    ensures { λ r. ⌜ r ≡ fenceStep s c q ⌝ }
+fn fence(m: Memory, c: Choice, q: Process) -> Turn
+    ensures { λ r. ⌜ r ≡ fenceTurn m c q ⌝ }
 {
     if !c.bare() {
-        return s.refused(Answer::NOT_OFFERED);
+        return Turn::stops(Answer::NOT_OFFERED, q);
     }
-    let m = s.memory;
     let k = m.fence(c.process);
     if k.no == 0 {
-        return s.goes(c.process, q);
+        return Turn::goes(q);
     }
-    s.refused(k.no)
+    Turn::stops(k.no, q)
 }
 
 // The branch of an answer, by the type read.
@@ -142,35 +148,34 @@ fn answer_place(kind: Kind) -> u8
 }
 
 // "5 answer a raised handshake": "read the type"
-fn answer(s: State, c: Choice, mut q: Process) -> Answer
-    ensures { λ r. ⌜ r ≡ answerStep s c q ⌝ }
+fn answer(h: Hands, c: Choice, mut q: Process) -> Turn
+    ensures { λ r. ⌜ r ≡ answerTurn h c q ⌝ }
 {
     if !c.bare() {
-        return s.refused(Answer::NOT_OFFERED);
+        return Turn::stops(Answer::NOT_OFFERED, q);
     }
     let part = q.part;
     if part.raised {
-        let h = s.hands;
         let kind = h.kind;
         q.place = answer_place(kind);
-        return s.goes(c.process, q);
+        return Turn::goes(q);
     }
-    s.refused(Answer::FLAG_DOWN)
+    Turn::stops(Answer::FLAG_DOWN, q)
 }
 
 // "At top the choice names an operation"
-fn top(s: State, c: Choice, q: Process) -> Answer
-    ensures { λ r. ⌜ r ≡ topOf s c q ⌝ }
+fn top(m: Memory, h: Hands, c: Choice, q: Process) -> Turn
+    ensures { λ r. ⌜ r ≡ topTurn m h c q ⌝ }
 {
     let op = c.op;
     match op {
-        0 => allocate(s, c, q),
-        1 => drop(s, c, q),
-        2 => read(s, c, q),
-        3 => store(s, c, q),
-        4 => fence(s, c, q),
-        5 => answer(s, c, q),
-        6..=255 => s.refused(Answer::NOT_OFFERED),
+        0 => allocate(m, c, q),
+        1 => drop(c, q),
+        2 => read(m, c, q),
+        3 => store(m, c, q),
+        4 => fence(m, c, q),
+        5 => answer(h, c, q),
+        6..=255 => Turn::stops(Answer::NOT_OFFERED, q),
     }
 }
 
@@ -204,57 +209,54 @@ fn after_mark(mut q: Process) -> Process
     }
 }
 
-// A mark step of the mutator: memory's number, or the process goes on, past the mark where it is over.
-fn marked(s: State, c: Choice, k: marking::Marked) -> Answer
-    ensures { λ r. ⌜ r ≡ marks s c k ⌝ }
+// A mark step of the mutator: its act is handed on, and the process goes past the mark where it is over.
+fn marked(k: Marked) -> Turn
+    ensures { λ r. ⌜ r ≡ siteTurn afterMark k ⌝ }
 {
-    let next = k.memory;
-    let q = k.process;
-    if k.no == 0 {
-        if k.over {
-            return s.acts(next, c.process, after_mark(q));
-        }
-        return s.acts(next, c.process, q);
+    let process = k.process;
+    let act = k.act;
+    if k.over {
+        return Turn {
+            process: after_mark(process),
+            act,
+            no: k.no,
+        };
     }
-    s.refused(k.no)
+    Turn {
+        process,
+        act,
+        no: k.no,
+    }
 }
 
 // A step of a mark whose cell is known.
-fn mark(s: State, c: Choice, q: Process) -> Answer
-    ensures { λ r. ⌜ r ≡ markStep s c q ⌝ }
+fn mark(m: Memory, c: Choice, q: Process) -> Turn
+    ensures { λ r. ⌜ r ≡ markSiteTurn m c q ⌝ }
 {
     if !c.blank() {
-        return s.refused(Answer::NOT_OFFERED);
+        return Turn::stops(Answer::NOT_OFFERED, q);
     }
-    let m = s.memory;
-    let k = marking::step(m, c.process, q);
-    marked(s, c, k)
+    marked(marking::step(m, c.process, q))
 }
 
 // "write the field, clearing the honorary root"
-fn write(s: State, c: Choice, mut q: Process) -> Answer
-    ensures { λ r. ⌜ r ≡ storeWriteStep s c q ⌝ }
+fn write(c: Choice, mut q: Process) -> Turn
+    ensures { λ r. ⌜ r ≡ storeWriteTurn c q ⌝ }
 {
     if !c.blank() {
-        return s.refused(Answer::NOT_OFFERED);
+        return Turn::stops(Answer::NOT_OFFERED, q);
     }
-    let m = s.memory;
     let store = Store::Field {
         cell: q.x,
         field: q.f,
         value: q.y,
     };
-    let k = m.write(c.process, Entry { store });
-    if k.no == 0 {
-        let next = k.memory;
-        q.place = Process::TOP;
-        q.x = 0;
-        q.f = 0;
-        q.y = 0;
-        q.old = 0;
-        return s.acts(next, c.process, q);
-    }
-    s.refused(k.no)
+    q.place = Process::TOP;
+    q.x = 0;
+    q.f = 0;
+    q.y = 0;
+    q.old = 0;
+    Turn::does(Act::Writes(store), q)
 }
 
 // Past an answer's fence: for roots to the first root if there is one, else to the last step.
@@ -285,35 +287,32 @@ fn past_fence(mut q: Process) -> Process
 }
 
 // "Answer: .. fence"
-fn answer_fence(s: State, c: Choice, q: Process) -> Answer
-    ensures { λ r. ⌜ r ≡ answerFenceStep s c q ⌝ }
+fn answer_fence(m: Memory, c: Choice, q: Process) -> Turn
+    ensures { λ r. ⌜ r ≡ answerFenceTurn m c q ⌝ }
 {
     if !c.blank() {
-        return s.refused(Answer::NOT_OFFERED);
+        return Turn::stops(Answer::NOT_OFFERED, q);
     }
-    let m = s.memory;
     let k = m.fence(c.process);
     if k.no == 0 {
-        return s.goes(c.process, past_fence(q));
+        return Turn::goes(past_fence(q));
     }
-    s.refused(k.no)
+    Turn::stops(k.no, q)
 }
 
 // "for roots, mark each root, the choice x naming which remaining one at its first look"
-fn roots(s: State, c: Choice, mut q: Process) -> Answer
-    ensures { λ r. ⌜ r ≡ rootsStep s c q ⌝ }
+fn roots(m: Memory, c: Choice, mut q: Process) -> Turn
+    ensures { λ r. ⌜ r ≡ rootsTurn m c q ⌝ }
 {
     if q.stage == Process::LOOK {
         if !c.names(q.left) {
-            return s.refused(Answer::NOT_OFFERED);
+            return Turn::stops(Answer::NOT_OFFERED, q);
         }
         q.left = cells::remove(q.left, c.x);
         q.cell = c.x;
-        let m = s.memory;
-        let k = marking::look(m, c.process, q);
-        return marked(s, c, k);
+        return marked(marking::look(m, c.process, q));
     }
-    mark(s, c, q)
+    mark(m, c, q)
 }
 
 // Back at top, the flag lowered and in step, at the given handshake phase.
@@ -330,79 +329,63 @@ fn stepping(phase: Handshake, mut q: Process) -> Process
     q
 }
 
-// "moves its list to the system's (joining what is there ..)": the system's side.
-fn handing(mut s: State, work: u64) -> State
-    ensures { λ r. ⌜ r ≡ handing s work ⌝ }
-{
-    let h = s.hands;
-    let kind = h.kind;
-    let phase = h.phase;
-    let hands = Hands {
-        kind,
-        phase,
-        work: cells::union(h.work, work),
-    };
-    s.hands = hands;
-    s
-}
-
 // "then one step lowers the flag, sets in step": "a no-op answer moves nothing".
-fn finish_noop(s: State, c: Choice, q: Process) -> Answer
-    ensures { λ r. ⌜ r ≡ finishNoop s c q ⌝ }
+fn finish_noop(c: Choice, q: Process) -> Turn
+    ensures { λ r. ⌜ r ≡ finishNoopTurn c q ⌝ }
 {
     if !c.blank() {
-        return s.refused(Answer::NOT_OFFERED);
+        return Turn::stops(Answer::NOT_OFFERED, q);
     }
     let part = q.part;
     let phase = part.phase;
-    s.goes(c.process, stepping(phase.next(), q))
+    Turn::goes(stepping(phase.next(), q))
 }
 
-// For roots it hands over the list, and "advances the mutator's handshake phase".
-fn finish_roots(s: State, c: Choice, mut q: Process) -> Answer
-    ensures { λ r. ⌜ r ≡ finishRoots s c q ⌝ }
+// For roots it "moves its list to the system's (joining what is there ..)", and "advances the mutator's handshake phase".
+fn finish_roots(h: Hands, c: Choice, mut q: Process) -> Turn
+    ensures { λ r. ⌜ r ≡ finishRootsTurn h c q ⌝ }
 {
     if !c.blank() {
-        return s.refused(Answer::NOT_OFFERED);
+        return Turn::stops(Answer::NOT_OFFERED, q);
     }
     let part = q.part;
     let phase = part.phase;
-    let handed = handing(s, q.work);
+    let joined = cells::union(h.work, q.work);
     q.work = 0;
-    handed.goes(c.process, stepping(phase.next(), q))
+    Turn::does(Act::Lists(joined), stepping(phase.next(), q))
 }
 
-// For work it hands over the list, and the handshake phase stays.
-fn finish_work(s: State, c: Choice, mut q: Process) -> Answer
-    ensures { λ r. ⌜ r ≡ finishWork s c q ⌝ }
+// For work it moves the list too, and the handshake phase stays.
+fn finish_work(h: Hands, c: Choice, mut q: Process) -> Turn
+    ensures { λ r. ⌜ r ≡ finishWorkTurn h c q ⌝ }
 {
     if !c.blank() {
-        return s.refused(Answer::NOT_OFFERED);
+        return Turn::stops(Answer::NOT_OFFERED, q);
     }
     let part = q.part;
     let phase = part.phase;
-    let handed = handing(s, q.work);
+    let joined = cells::union(h.work, q.work);
     q.work = 0;
-    handed.goes(c.process, stepping(phase, q))
+    Turn::does(Act::Lists(joined), stepping(phase, q))
 }
 
 // The step at a mutator's place. A place that is none of its own is malformed.
-pub fn step(s: State, c: Choice, q: Process) -> Answer
-    ensures { λ r. ⌜ r ≡ mutatorOf s c q ⌝ }
+pub fn step(m: Memory, h: Hands, c: Choice, q: Process) -> Turn
+    ensures { λ r. ⌜ r ≡ mutatorTurn m h c q ⌝ }
 {
     let place = q.place;
     match place {
-        Process::TOP => top(s, c, q),
-        Process::STORE_MARK_OLD => mark(s, c, q),
-        Process::STORE_MARK_Y => mark(s, c, q),
-        Process::STORE_WRITE => write(s, c, q),
-        Process::NOOP_FENCE => answer_fence(s, c, q),
-        Process::NOOP_FINISH => finish_noop(s, c, q),
-        Process::ROOTS_FENCE => answer_fence(s, c, q),
-        Process::ROOTS_MARK => roots(s, c, q),
-        Process::ROOTS_FINISH => finish_roots(s, c, q),
-        Process::WORK_FENCE => answer_fence(s, c, q),
-        Process::WORK_FINISH => finish_work(s, c, q),
-        11..=255 => s.refused(Answer::MALFORMED),
+        Process::TOP => top(m, h, c, q),
+        Process::STORE_MARK_OLD => mark(m, c, q),
+        Process::STORE_MARK_Y => mark(m, c, q),
+        Process::STORE_WRITE => write(c, q),
+        Process::NOOP_FENCE => answer_fence(m, c, q),
+        Process::NOOP_FINISH => finish_noop(c, q),
+        Process::ROOTS_FENCE => answer_fence(m, c, q),
+        Process::ROOTS_MARK => roots(m, c, q),
+        Process::ROOTS_FINISH => finish_roots(h, c, q),
+        Process::WORK_FENCE => answer_fence(m, c, q),
+        Process::WORK_FINISH => finish_work(h, c, q),
+        11..=255 => Turn::stops(Answer::MALFORMED, q),
     }
 }

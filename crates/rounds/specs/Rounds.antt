@@ -1,44 +1,25 @@
 -- "A round is: fence; set type (all in-step bits off; the system's handshake phase advances for no-op and roots); raise each flag once, x naming the mutator; poll, x naming one
 -- still awaited, until none is. A poll that finds the flag up is taken and changes nothing." The collector is q now, in the round r. Assumes nothing.
-use mathlib.Core.Bool.{Bool, true, false}
 use Prim.Native.Nat.{ℕ}
 use lib.Dec.{eqb}
 use Rattle.base.specs.Pick.{pick}
 use Rattle.cells.specs.Sets.{removeOf, fullOf}
 use Rattle.memory.specs.Steps.{fenceOf}
-use Rattle.state.specs.declared.Handshake.{Handshake}
-use Rattle.state.specs.declared.Kind.{Kind}
-use Rattle.state.specs.declared.Kind.the-variants as kind
 use Rattle.state.specs.declared.Process.{Process}
-use Rattle.state.specs.declared.Hands.{Hands}
 use Rattle.state.specs.declared.State.{State}
 use Rattle.state.specs.declared.Choice.{Choice}
 use Rattle.state.specs.declared.Answer.{Answer}
 use Rattle.state.specs.Codes.{malformed, notOffered, fenceStage, typeStage, raiseStage, pollStage}
-use Rattle.state.specs.States.{nextOf, at, leaving, shaking, mutatorsOf, processOf, withProcess, withHands, refusedOf, goesOf}
+use Rattle.state.specs.States.{at, leaving, mutatorsOf, processOf, withHands, refusedOf, goesOf}
 use Rattle.state.specs.Choices.{isBlank, isNaming}
+unfoldable pub use Rattle.state.specs.Handshakes.{outOfStep, allOut, typed, raisedOf}
+pub use Rattle.state.specs.Handshakes.{advanceOf}
 use Rattle.rounds.specs.declared.Round.{Round}
 
 -- "fence"
 unfoldable pub fenceRound : State → Choice → Process → Answer
 fenceRound s c q =
     pick (isBlank c) (let k = fenceOf (s .memory) (c .process) in pick (eqb (k .no) 0) (goesOf s (c .process) (at (q .place) typeStage q)) (refusedOf (k .no) s)) (refusedOf notOffered s)
-
--- "all in-step bits off"
-unfoldable pub outOfStep : State → ℕ → State
-outOfStep s p = let q = processOf s p in withProcess s p (shaking (q .part .raised) false (q .part .phase) q)
-
-unfoldable pub allOut : State → State
-allOut s = outOfStep (outOfStep (outOfStep (outOfStep s 1) 2) 3) 4
-
--- "the system's handshake phase advances for no-op and roots"
-abbrev pub advanceOf : Kind → Handshake → Handshake
-advanceOf kind.Noop h = nextOf h
-advanceOf kind.Roots h = nextOf h
-advanceOf kind.Work h = h
-
-unfoldable pub typed : Hands → Kind → Hands
-typed h k = record { kind = k; phase = advanceOf k (h .phase); work = h .work }
 
 -- "set type"
 unfoldable pub typeRound : State → Choice → Process → Round → Answer
@@ -48,9 +29,6 @@ typeRound s c q r =
     (refusedOf notOffered s)
 
 -- "raise each flag once, x naming the mutator": the last one raised, all are awaited
-unfoldable pub raisedOf : State → ℕ → State
-raisedOf s x = let q = processOf s x in withProcess s x (shaking true (q .part .in_step) (q .part .phase) q)
-
 unfoldable pub raising : ℕ → ℕ → Process → Process
 raising all left q = pick (eqb left 0) (at (q .place) pollStage (leaving all q)) (leaving left q)
 

@@ -1,4 +1,5 @@
 // "A round is: fence; set type ..; raise each flag once, x naming the mutator; poll, x naming one still awaited, until none is": written once, used by the collector's six rounds.
+use memory::Memory;
 use state::Answer;
 use state::Choice;
 use state::Hands;
@@ -7,8 +8,11 @@ use state::Kind;
 use state::Part;
 use state::Process;
 use state::State;
+use state::turns::Act;
+use state::turns::Turn;
 ghost use mathlib.Core.Path.{_≡_};
-ghost use Rattle.rounds.specs.Rounds.{fenceRound, outOfStep, allOut, advanceOf, typed, typeRound, raisedOf, raising, raiseRound, polling, pollRound, roundOf};
+ghost use Rattle.rounds.specs.Rounds.{outOfStep, allOut, advanceOf, typed, raisedOf, raising, polling};
+ghost use Rattle.rounds.specs.Turns.{mutatorsIn, fenceRoundTurn, typeRoundTurn, raiseRoundTurn, pollRoundTurn, roundTurn};
 
 // A round of the collector: its type, and the place and stage that follow it.
 pub struct Round {
@@ -17,20 +21,30 @@ pub struct Round {
     pub stage: u8,
 }
 
+// M: memory's processes without the collector.
+fn mutators(m: Memory) -> u8
+    ensures { λ r. ⌜ r ≡ mutatorsIn m ⌝ }
+{
+    let n = m.processes;
+    if n == 0 {
+        return 0;
+    }
+    n - 1
+}
+
 // "fence"
-fn fence(s: State, c: Choice, mut q: Process) -> Answer
-    ensures { λ r. ⌜ r ≡ fenceRound s c q ⌝ }
+fn fence(m: Memory, c: Choice, mut q: Process) -> Turn
+    ensures { λ r. ⌜ r ≡ fenceRoundTurn m c q ⌝ }
 {
     if !c.blank() {
-        return s.refused(Answer::NOT_OFFERED);
+        return Turn::stops(Answer::NOT_OFFERED, q);
     }
-    let m = s.memory;
     let k = m.fence(c.process);
     if k.no == 0 {
         q.stage = Process::TYPE;
-        return s.goes(c.process, q);
+        return Turn::goes(q);
     }
-    s.refused(k.no)
+    Turn::stops(k.no, q)
 }
 
 // Mutator p's in-step bit goes off.
@@ -50,7 +64,7 @@ fn out_of_step(s: State, p: u8) -> State
 }
 
 // "all in-step bits off"
-fn all_out(s: State) -> State
+pub fn all_out(s: State) -> State
     ensures { λ r. ⌜ r ≡ allOut s ⌝ }
 {
     let a = out_of_step(s, 1);
@@ -70,7 +84,8 @@ fn advance(kind: Kind, phase: Handshake) -> Handshake
     }
 }
 
-fn typed(h: Hands, kind: Kind) -> Hands
+// The system's part once the type is set: its work list stays.
+pub fn typed(h: Hands, kind: Kind) -> Hands
     ensures { λ r. ⌜ r ≡ typed h kind ⌝ }
 {
     let phase = h.phase;
@@ -82,25 +97,21 @@ fn typed(h: Hands, kind: Kind) -> Hands
     }
 }
 
-// "set type"
-fn set_type(mut s: State, c: Choice, mut q: Process, round: Round) -> Answer
-    ensures { λ r. ⌜ r ≡ typeRound s c q round ⌝ }
+// "set type": the act does it; every flag is then to be raised.
+fn set_type(m: Memory, c: Choice, mut q: Process, round: Round) -> Turn
+    ensures { λ r. ⌜ r ≡ typeRoundTurn m c q round ⌝ }
 {
     if !c.blank() {
-        return s.refused(Answer::NOT_OFFERED);
+        return Turn::stops(Answer::NOT_OFFERED, q);
     }
-    let h = s.hands;
     let kind = round.kind;
-    let hands = typed(h, kind);
-    let all = cells::full(s.mutators());
-    s.hands = hands;
     q.stage = Process::RAISE;
-    q.left = all;
-    all_out(s).goes(c.process, q)
+    q.left = cells::full(mutators(m));
+    Turn::does(Act::Types(kind), q)
 }
 
 // Mutator x's flag goes up.
-fn raised(s: State, x: u8) -> State
+pub fn raised(s: State, x: u8) -> State
     ensures { λ r. ⌜ r ≡ raisedOf s x ⌝ }
 {
     let mut q = s.process(x);
@@ -129,15 +140,15 @@ fn raising(all: u64, left: u64, mut q: Process) -> Process
 }
 
 // "raise each flag once, x naming the mutator"
-fn raise(s: State, c: Choice, q: Process) -> Answer
-    ensures { λ r. ⌜ r ≡ raiseRound s c q ⌝ }
+fn raise(m: Memory, c: Choice, q: Process) -> Turn
+    ensures { λ r. ⌜ r ≡ raiseRoundTurn m c q ⌝ }
 {
     if !c.names(q.left) {
-        return s.refused(Answer::NOT_OFFERED);
+        return Turn::stops(Answer::NOT_OFFERED, q);
     }
-    let all = cells::full(s.mutators());
+    let all = cells::full(mutators(m));
     let next = raising(all, cells::remove(q.left, c.x), q);
-    raised(s, c.x).goes(c.process, next)
+    Turn::does(Act::Raises(c.x), next)
 }
 
 // The mutators still awaited; none left: the round is over.
@@ -153,32 +164,30 @@ fn polling(left: u64, mut q: Process, round: Round) -> Process
     q
 }
 
-// "poll, x naming one still awaited": "A poll that finds the flag up is taken and changes nothing."
-fn poll(s: State, c: Choice, q: Process, round: Round) -> Answer
-    ensures { λ r. ⌜ r ≡ pollRound s c q round ⌝ }
+// "poll, x naming one still awaited": "A poll that finds the flag up is taken and changes nothing." The mutator's flag is `up`.
+fn poll(up: bool, c: Choice, q: Process, round: Round) -> Turn
+    ensures { λ r. ⌜ r ≡ pollRoundTurn up c q round ⌝ }
 {
     if !c.names(q.left) {
-        return s.refused(Answer::NOT_OFFERED);
+        return Turn::stops(Answer::NOT_OFFERED, q);
     }
-    let other = s.process(c.x);
-    let part = other.part;
-    if part.raised {
-        return s.goes(c.process, q);
+    if up {
+        return Turn::goes(q);
     }
-    s.goes(c.process, polling(cells::remove(q.left, c.x), q, round))
+    Turn::goes(polling(cells::remove(q.left, c.x), q, round))
 }
 
-// The step at the stage of the round. A stage that is none is malformed.
-pub fn step(s: State, c: Choice, q: Process, round: Round) -> Answer
-    ensures { λ r. ⌜ r ≡ roundOf s c q round ⌝ }
+// The step at the stage of the round; `up` is the flag of the mutator that x names. A stage that is none is malformed.
+pub fn step(m: Memory, up: bool, c: Choice, q: Process, round: Round) -> Turn
+    ensures { λ r. ⌜ r ≡ roundTurn m up c q round ⌝ }
 {
     let stage = q.stage;
     match stage {
-        0 => s.refused(Answer::MALFORMED),
-        Process::FENCE => fence(s, c, q),
-        Process::TYPE => set_type(s, c, q, round),
-        Process::RAISE => raise(s, c, q),
-        Process::POLL => poll(s, c, q, round),
-        5..=255 => s.refused(Answer::MALFORMED),
+        0 => Turn::stops(Answer::MALFORMED, q),
+        Process::FENCE => fence(m, c, q),
+        Process::TYPE => set_type(m, c, q, round),
+        Process::RAISE => raise(m, c, q),
+        Process::POLL => poll(up, c, q, round),
+        5..=255 => Turn::stops(Answer::MALFORMED, q),
     }
 }

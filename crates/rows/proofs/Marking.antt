@@ -31,16 +31,14 @@ use Rattle.memory.proofs.Effects.{is-taken}
 use Rattle.state.specs.declared.Process.{Process}
 use Rattle.state.specs.declared.State.{State}
 use Rattle.state.specs.declared.Choice.{Choice}
-use Rattle.state.specs.declared.Answer.{Answer}
 use Rattle.state.specs.Codes.{top, noSuchKind, storeMarkOld, storeMarkY, rootsMark, noStage, lookStage, senseStage, phaseStage, lockStage, againStage, writeStage, unlockStage}
-use Rattle.state.specs.States.{at, marking, listing, withProcess, withMemory, takenOf, refusedOf, actsOf}
+use Rattle.state.specs.States.{at, marking, listing, withProcess, withMemory, takenOf}
 use Rattle.rows.specs.Offers.{markPlace}
 use Rattle.rows.specs.Deeds.{Deed, reads, writes, locks, unlocks, cellOf, markDeed, deedOf}
 use Rattle.rows.specs.Reasons.{mover, FlagDown}
 use Rattle.rows.specs.Rows as row
 use Rattle.rows.specs.Rows.{seesBit, seesPhase, unnoted, Next, Mark}
-use Rattle.marking.specs.declared.Marked.{Marked}
-use Rattle.marking.specs.Marks.{markedCell, overOf, goesOn, ends, stopsOf, isIdle, lookStep, senseStep, phaseStep, lockStep, againStep, writeStep, unlockStep, markOf}
+use Rattle.marking.specs.Marks.{MarkAnswer, markedCell, overOf, goesOn, ends, stopsOf, markOver, isIdle, lookStep, senseStep, phaseStep, lockStep, againStep, writeStep, unlockStep, markOf}
 use Rattle.rows.specs.Views.{OwnFirst, OwnClear, View, stops, goes}
 use Rattle.rows.proofs.Numbers.{Buffered, mark-looked, sense-looked, phase-looked, locked, unlocked, written}
 use Rattle.rows.proofs.Deeds.{Offered, Ready, Told, told-ind, read-told, lock-told, unlock-told, write-told}
@@ -104,13 +102,6 @@ site s c k o z b m h =
       buffered = b;
     }
 
--- the answer k of a mark step, by process p, which goes on by `after` once the mark is over
-abbrev pub markOver : State → ℕ → (Process → Process) → Marked → Answer
-markOver s p after k =
-    pick (eqb (k .no) 0)
-    (pick (k .over) (actsOf s (k .memory) p (after (k .process))) (actsOf s (k .memory) p (k .process)))
-    (refusedOf (k .no) s)
-
 pub over-is : (p : ℕ) (q : Process) → overOf p q ≡ at (q .place) noStage (unnoted p q)
 unfolding overOf unnoted
 over-is p q = go (eqb p 0)
@@ -142,7 +133,7 @@ OwnMark s c n t = Mark (s .memory) (c .process) (markedCell (mover s c)) (mover 
 module _ (s : State) (c : Choice) (z : Site s c) (R : State → Type 0) (after : Process → Process)
     (row-of : (n : Memory) (t : Process) → OwnMark s c n t → R (withProcess (withMemory s n) (c .process) t))
     (next : (w : Process) → w .place ≡ mover s c .place → Next w (after (at (w .place) noStage w))) where
-  abbrev Out : Marked → Type 0
+  abbrev Out : MarkAnswer → Type 0
   Out k = View R s c (markOver s (c .process) after k)
 
   -- the deed d of the stage j
@@ -308,7 +299,7 @@ module _ (s : State) (p : ℕ) (q : Process) (after : Process → Process) (next
   lost u t i w = subst (λ (l : ℕ). Next (unnoted p (listing l (u .roots) u)) t) (sym (ap (addOf (u .work)) i ∙ add-null (u .work))) w
 
   -- the step of the stage j answers k
-  does : {j : ℕ} {k : Marked} (step : Process → Marked) → q .stage ≡ j → markOf (s .memory) p (at (q .place) j q) ≡ step (at (q .place) j q) → step q ≡ k → markOver s p after (markOf (s .memory) p q) ≡ markOver s p after k
+  does : {j : ℕ} {k : MarkAnswer} (step : Process → MarkAnswer) → q .stage ≡ j → markOf (s .memory) p (at (q .place) j q) ≡ step (at (q .place) j q) → step q ≡ k → markOver s p after (markOf (s .memory) p q) ≡ markOver s p after k
   does step g h e = ap (markOver s p after) (stage-same (markOf (s .memory) p) step q g h ∙ e)
 
   pub mark-row : {n : Memory} {t : Process} → Mark (s .memory) p (markedCell q) q n t → markOver s p after (markOf (s .memory) p q) ≡ takenOf (withProcess (withMemory s n) p t)

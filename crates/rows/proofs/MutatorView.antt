@@ -30,8 +30,7 @@ use Rattle.rows.specs.Deeds.{Deed, writes, fences, cellOf, markDeed, row
 use Rattle.rows.specs.Reasons.{mover}
 use Rattle.rows.specs.Rows as row
 use Rattle.rows.specs.Rows.{At, Marks, Next, Mutator}
-use Rattle.marking.specs.declared.Marked.{Marked}
-use Rattle.marking.specs.Marks.{goesOn, stopsOf, lookStep}
+use Rattle.marking.specs.Marks.{MarkAnswer, goesOn, stopsOf, lookStep}
 use Rattle.mutator.specs.Mutators.{afterMark, marks, markStep, storeWriteStep, pastFence, answerFenceStep, rootsStep, stepping, handing, finishNoop, finishRoots, finishWork, mutatorOf}
 use Rattle.rows.specs.Views.{OwnFirst, OwnClear, View, stops, goes}
 use Rattle.rows.proofs.Numbers.{mark-looked, fenced, written}
@@ -131,7 +130,7 @@ module _ (s : State) (c : Choice) (z : Mutating s c) where
   unfolding marks offerOf deedOf markDeed cellOf
   first-view e i =
       let l = lookMarkOf (s .memory) (c .process) (c .x) in
-      let P : Marked → Type 0 = λ k. Out (marks s c k) in
+      let P : MarkAnswer → Type 0 = λ k. Out (marks s c k) in
       offers-one (Own s c) s c (z .kind) (staged offerOf (mover s c) e i)
       (λ o x m. subst P (sym (root-look (s .memory) (c .process) (mover s c) (c .x) (removeOf (mover s c .left) (c .x)) (omega arith)))
       (told-ind s c P (read-told s c (ready e (omega arith) o (staged (deedOf c) (mover s c) e i)) (mark-looked (s .memory) (c .process) (c .x)))

@@ -1,25 +1,25 @@
 -- A run, record by record: what its loop knows turn by turn. Assumes nothing.
 --     onward-goes, onward-stays      a run goes on while it has no stop
---     turn-steps                     a turn takes one record at most
---     begun                          a run that has just begun, by its own state
+--     turn-wrong, -taken, -stops     what a turn comes to
 --     run-more                       one record more
 --     run-stays                      a run that has stopped stays as it is, however many records follow
-use mathlib.Core.Path.{_≡_, sym, ap, _∙_}
+--     wrong-halts, refused-halts     the loop leaves with such a run
+--     taken-goes                     or goes on
+use mathlib.Core.Path.{_≡_, refl, sym, ap, _∙_}
 use mathlib.Core.Bool.{Bool}
 use mathlib.Core.List.{List}
-use Prim.Native.Nat.{ℕ, zero, suc, _+_, _*_, _≤_}
+use Prim.Native.Nat.{ℕ, zero, suc, _+_, _*_, _≤_, _<_}
 use native.Mathlib.Numerals.{add-one}
 use native.Mathlib.Decide.{ℕ-discrete}
 use native.Mathlib.Omega.{arith}
-use lib.Dec.{eqb}
 use borrow.Author.Tests.{eq-eqb, ne-eqb}
-use Rattle.base.proofs.Picking.{picked}
 use Rattle.state.specs.declared.State.{State}
+use Rattle.state.specs.States.{takenOf}
 use Rattle.engine.specs.Steps.{innerOf}
 use Rattle.runlog.specs.declared.record.Record.{Record}
 use Rattle.runlog.specs.declared.run.Run.{Run}
-use Rattle.runlog.specs.Records.{recordSize, recordAt, rightCheckOf}
-use Rattle.runlog.specs.Runs.{startOf, turnOf, onwardIf, onwardOf, runOf}
+use Rattle.runlog.specs.Records.{recordSize, recordAt, checkOf}
+use Rattle.runlog.specs.Runs.{wrongCheck, stoppedOf, tookOf, turnOf, onwardIf, onwardOf, runOf}
 
 pub onward-goes : (run : Run) (r : Record) → run .stop ≡ 0 → onwardOf run r ≡ turnOf run r
 unfolding onwardOf
@@ -29,15 +29,18 @@ pub onward-stays : (run : Run) (r : Record) → (run .stop ≡ 0 → ⊥) → on
 unfolding onwardOf
 onward-stays run r n = ap (λ (b : Bool). onwardIf b run r) (ne-eqb (run .stop) 0 n)
 
-pub turn-steps : (run : Run) (r : Record) → turnOf run r .steps ≤ run .steps + 1
+-- what its turn comes to, by what the step answers
+pub turn-wrong : (run : Run) (r : Record) → (r .check ≡ checkOf (r .choice) → ⊥) → turnOf run r ≡ stoppedOf wrongCheck run
 unfolding turnOf
-turn-steps run r =
-    let P : Run → Type 0 = λ q. q .steps ≤ run .steps + 1 in
-    let a = innerOf (run .state) (r .choice) in
-    picked P (rightCheckOf r) (picked P (eqb (a .no) 0) (omega arith) (omega arith)) (omega arith)
+turn-wrong run r h = rw (ne-eqb (r .check) (checkOf (r .choice)) h) refl
 
-pub begun : (run : Run) (s : State) → run ≡ startOf s → run ≡ startOf (run .state)
-begun run s e = e ∙ ap startOf (sym (ap (λ (q : Run). q .state) e))
+pub turn-taken : (run : Run) (r : Record) (t : State) → r .check ≡ checkOf (r .choice) → innerOf (run .state) (r .choice) ≡ takenOf t → turnOf run r ≡ tookOf run t
+unfolding turnOf
+turn-taken run r t h e = rw (eq-eqb (r .check) (checkOf (r .choice)) h, e) refl
+
+pub turn-stops : (run : Run) (r : Record) (n : ℕ) → r .check ≡ checkOf (r .choice) → innerOf (run .state) (r .choice) .no ≡ n → (n ≡ 0 → ⊥) → turnOf run r ≡ stoppedOf n run
+unfolding turnOf
+turn-stops run r n h e z = rw (eq-eqb (r .check) (checkOf (r .choice)) h, e, ne-eqb n 0 z) refl
 
 module _ (log : List ℕ) (at : ℕ) (s : State) where
   pub run-more : (run q : Run) (k : ℕ) → run ≡ runOf log at s k → run .stop ≡ 0 → q ≡ turnOf run (recordAt log (at + recordSize * k)) → q ≡ runOf log at s (k + 1)
@@ -54,3 +57,27 @@ module _ (log : List ℕ) (at : ℕ) (s : State) where
       go (no q) f =
           let r = recordAt log (at + recordSize * n) in
           sym (onward-stays run r z) ∙ ap (λ (x : Run). onwardOf x r) (f (omega arith))
+
+  -- the run goes on, in the state t after k records
+  abbrev pub Ongoing : State → ℕ → Type 0
+  Ongoing t k = record { state = t; steps = k; stop = 0 } ≡ runOf log at s k
+
+  module _ (t : State) (k n : ℕ) (r : Record) (o : Ongoing t k) (e : r ≡ recordAt log (at + recordSize * k)) (l : k < n) where
+    -- the record is turned down, and those after it change nothing
+    halted : (m : ℕ) → (m ≡ 0 → ⊥) → turnOf (record { state = t; steps = k; stop = 0 }) r ≡ record { state = t; steps = k; stop = m } → record { state = t; steps = k; stop = m } ≡ runOf log at s n
+    halted m z h =
+        let run : Run = record { state = t; steps = k; stop = 0 } in
+        let q : Run = record { state = t; steps = k; stop = m } in
+        run-stays q n (k + 1) (run-more run q k o refl (sym h ∙ ap (turnOf run) e)) z (omega arith)
+
+    pub wrong-halts : (r .check ≡ checkOf (r .choice) → ⊥) → record { state = t; steps = k; stop = wrongCheck } ≡ runOf log at s n
+    wrong-halts h = halted wrongCheck (λ z. omega arith) (turn-wrong (record { state = t; steps = k; stop = 0 }) r h)
+
+    module _ (right : r .check ≡ checkOf (r .choice)) where
+      pub refused-halts : (m : ℕ) → innerOf t (r .choice) .no ≡ m → (m ≡ 0 → ⊥) → record { state = t; steps = k; stop = m } ≡ runOf log at s n
+      refused-halts m f z = halted m z (turn-stops (record { state = t; steps = k; stop = 0 }) r m right f z)
+
+      pub taken-goes : (u : State) → innerOf t (r .choice) ≡ takenOf u → Ongoing u (k + 1)
+      taken-goes u f =
+          let run : Run = record { state = t; steps = k; stop = 0 } in
+          run-more run (record { state = u; steps = k + 1; stop = 0 }) k o refl (sym (turn-taken run r u right f) ∙ ap (turnOf run) e)

@@ -1,19 +1,20 @@
 // The run over the records: each by the step of the state before it, until one stops it.
 use super::record;
 use super::record::Record;
+use engine::settles;
 use state::State;
 ghost use mathlib.Core.Path.{_≡_};
-ghost use Prim.Native.Nat.{_+_, _*_, _≤_, _<_};
+ghost use Prim.Native.Nat.{_+_, _*_, _≤_};
 ghost use lib.ListN.{length};
 ghost use Rattle.header.specs.Header.{maxLog, sizeOf};
 ghost use Rattle.runlog.specs.Records.{recordSize};
-ghost use Rattle.runlog.specs.Runs.{startOf, stoppedOf, turnOf, runOf, closedOf, playedOf};
+ghost use Rattle.runlog.specs.Runs.{stoppedOf, runOf, closedOf, playedOf};
 
-// What a run has come to: the records taken, the stop, 0 while there is none, and the state.
+// What a run has come to: the state, the records taken, and the stop, 0 while there is none.
 pub struct Run {
+    pub state: State,
     pub steps: u32,
     pub stop: u8,
-    pub state: State,
 }
 
 impl Run {
@@ -21,48 +22,16 @@ impl Run {
 
     pub const FEW_LEFT: u8 = 14;
 
-    fn start(s: State) -> Run
-        ensures { λ r. ⌜ r ≡ startOf s ⌝ }
-    {
-        Run {
-            steps: 0,
-            stop: 0,
-            state: s,
-        }
-    }
-
     // Stopped by a number: nothing else changes.
     fn stopped(self, no: u8) -> Run
         ensures { λ r. ⌜ r ≡ stoppedOf no self ⌝ }
     {
         let s = self.state;
         Run {
+            state: s,
             steps: self.steps,
             stop: no,
-            state: s,
         }
-    }
-
-    // A record's turn: a wrong check comes before any refusal of that record.
-    fn turn(self, r: Record) -> Run
-        requires { ⌜ self .steps < maxLog ⌝ }
-        ensures { λ q. ⌜ q ≡ turnOf self r ⌝ }
-    {
-        let c = r.choice;
-        if r.check != record::check_of(c) {
-            return self.stopped(Run::WRONG_CHECK);
-        }
-        let s = self.state;
-        let a = engine::inner(s, c);
-        if a.no == 0 {
-            let next = a.state;
-            return Run {
-                steps: self.steps + 1,
-                stop: 0,
-                state: next,
-            };
-        }
-        self.stopped(a.no)
     }
 
     // "Fewer than 8 bytes left: stop 14. None left: stop 0."
@@ -79,22 +48,72 @@ impl Run {
     }
 }
 
-// The run of so many records, from a place on.
-fn records(log: &[u8], at: u32, s: State, whole: u32) -> Run
+// The run of so many records, from a place on. A wrong check comes before any refusal of that record.
+// The state is this function's own and changes in place: a step that took and returned it would copy it whole at each record, which costs more than the step.
+fn records(log: &[u8], at: u32, start: State, whole: u32) -> Run
     requires { ⌜ at + recordSize * whole ≤ maxLog ⌝ }
-    ensures { λ r. ⌜ r ≡ runOf (now (log .entry)) at s whole ⌝ }
+    ensures { λ r. ⌜ r ≡ runOf (now (log .entry)) at start whole ⌝ }
 {
-    let mut run = Run::start(s);
-    let mut k: u32 = 0;
-    while k < whole {
-        if run.stop != 0 {
-            return run;
+    let mut state = start;
+    let mut steps: u32 = 0;
+    while steps < whole {
+        let r = record::read(log, at + Record::SIZE * steps);
+        let c = r.choice;
+        if r.check != record::check_of(c) {
+            return Run {
+                state,
+                steps,
+                stop: Run::WRONG_CHECK,
+            };
         }
-        let r = record::read(log, at + Record::SIZE * k);
-        run = run.turn(r);
-        k += 1;
+        let i = settles::seat(c.process);
+        let j = settles::seat(c.x);
+        let q = state.procs[i];
+        let other = state.procs[j];
+        let m = state.memory;
+        let h = state.hands;
+        let t = settles::turned(m, h, c, q, other);
+        let way = settles::way(c.process, t);
+        if way == settles::ALONE {
+            let next = t.process;
+            state.procs[i] = next;
+            steps += 1;
+            continue;
+        }
+        if way == settles::MEMORY {
+            let act = t.act;
+            let d = settles::acted(m, c.process, act);
+            if d.no != 0 {
+                return Run {
+                    state,
+                    steps,
+                    stop: d.no,
+                };
+            }
+            let memory = d.memory;
+            let next = t.process;
+            state.memory = memory;
+            state.procs[i] = next;
+            steps += 1;
+            continue;
+        }
+        let a = settles::settled(state, c.process, t);
+        if a.no != 0 {
+            return Run {
+                state,
+                steps,
+                stop: a.no,
+            };
+        }
+        let next = a.state;
+        state = next;
+        steps += 1;
     }
-    run
+    Run {
+        state,
+        steps,
+        stop: 0,
+    }
 }
 
 // The run of all that follows the header.

@@ -2,6 +2,7 @@
 use memory::Memory;
 
 pub mod opening;
+pub mod turns;
 
 ghost use mathlib.Core.Path.{_≡_};
 ghost use Rattle.state.specs.States.{nextOf, typeNumber, phaseNumber, noProcess, processOf, withProcess, refusedOf, takenOf, goesOf, actsOf, mutatorsOf};
@@ -203,7 +204,10 @@ impl Process {
 
 impl State {
     // "M from 1 to 4"
-    pub const MUTATORS: usize = 4;
+    pub const MUTATORS: u8 = 4;
+
+    // a heap's root sets, one for each mutator that there can be
+    pub const ROOT_SETS: usize = 4;
 
     // with the collector
     pub const PROCESSES: usize = 5;

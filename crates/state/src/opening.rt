@@ -19,7 +19,7 @@ pub struct Heap {
     pub used: u64,
     pub field0: [u8; Memory::CELLS],
     pub field1: [u8; Memory::CELLS],
-    pub roots: [u64; State::MUTATORS],
+    pub roots: [u64; State::ROOT_SETS],
 }
 
 // "all marks of occupied cells 1"

@@ -1,15 +1,15 @@
 use borrow.Author.Needs.{needs}
 use Rattle.base.proofs.Picks.{picks}
-use Rattle.collector.specs.Collectors.{dropStep}
+use Rattle.collector.specs.Turns.{dropTurn}
 use Rattle.collector.proofs.drop.Statement.{statement}
 use Rattle.collector.proofs.drop.Tie as tie
 
 returns : tie.Need-returns
-unfolding dropStep
-returns c = rw (← c .refused .ensures) (search (needs, picks, c .before .if1 .taken, c .before .before .blank .ensures) depth 16)
+unfolding dropTurn
+returns c = rw (← c .stops .ensures) (search (needs, picks, c .before .if1 .taken, c .before .before .blank .ensures) depth 16)
 
 returns-2 : tie.Need-returns-2
-unfolding dropStep
+unfolding dropTurn
 returns-2 c = rw (← c .before .before .remove .ensures, ← c .before .dropping .ensures, ← c .goes .ensures) (search (needs, picks, c .before .before .before .if1 .left, c .before .before .before .before .blank .ensures) depth 16)
 
 pub drop-spec : {M : Type 1} → statement M

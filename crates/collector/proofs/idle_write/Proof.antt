@@ -1,11 +1,11 @@
 use borrow.Author.Needs.{needs}
 use Rattle.base.proofs.Picks.{picks}
-use Rattle.collector.specs.Collectors.{idleWriteStep}
+use Rattle.collector.specs.Turns.{idleWriteTurn}
 use Rattle.collector.proofs.idle_write.Statement.{statement}
 use Rattle.collector.proofs.idle_write.Tie as tie
 
 returns : tie.Need-returns
-unfolding idleWriteStep
+unfolding idleWriteTurn
 returns c = rw (← c .write .ensures) (search (needs, picks) depth 16)
 
 pub idle-write-spec : {M : Type 1} → statement M

@@ -1,20 +1,20 @@
 use borrow.Author.Needs.{needs}
 use Rattle.base.proofs.Picks.{picks}
-use Rattle.collector.specs.Collectors.{senseReadStep}
+use Rattle.collector.specs.Turns.{senseReadTurn}
 use Rattle.collector.proofs.sense_read.Statement.{statement}
 use Rattle.collector.proofs.sense_read.Tie as tie
 
 returns : tie.Need-returns
-unfolding senseReadStep
-returns c = rw (← c .refused .ensures) (search (needs, picks, c .before .if1 .taken, c .before .before .blank .ensures) depth 16)
+unfolding senseReadTurn
+returns c = rw (← c .stops .ensures) (search (needs, picks, c .before .if1 .taken, c .before .before .blank .ensures) depth 16)
 
 returns-2 : tie.Need-returns-2
-unfolding senseReadStep
-returns-2 c = rw (← c .before .before .before .look-sense .ensures, ← c .goes .ensures) (search (needs, picks, c .before .if2 .taken, c .before .before .before .before .before .if1 .left, c .before .before .before .before .before .before .blank .ensures) depth 16)
+unfolding senseReadTurn
+returns-2 c = rw (← c .before .before .before .look-sense .ensures, ← c .goes .ensures) (search (needs, picks, c .before .if2 .taken, c .before .before .before .before .if1 .left, c .before .before .before .before .before .blank .ensures) depth 16)
 
 returns-3 : tie.Need-returns-3
-unfolding senseReadStep
-returns-3 c = rw (← c .before .before .before .look-sense .ensures, ← c .refused2 .ensures) (search (needs, picks, c .before .if2 .left, c .before .before .before .before .before .if1 .left, c .before .before .before .before .before .before .blank .ensures) depth 16)
+unfolding senseReadTurn
+returns-3 c = rw (← c .before .before .before .look-sense .ensures, ← c .stops2 .ensures) (search (needs, picks, c .before .if2 .left, c .before .before .before .before .if1 .left, c .before .before .before .before .before .blank .ensures) depth 16)
 
 pub sense-read-spec : {M : Type 1} → statement M
 sense-read-spec =

@@ -1,31 +1,20 @@
 use borrow.Author.Needs.{needs}
 use Rattle.base.proofs.Picks.{picks}
-use Rattle.mutator.specs.Mutators.{answerFenceStep}
+use Rattle.mutator.specs.Turns.{answerFenceTurn}
 use Rattle.mutator.proofs.answer_fence.Statement.{statement}
 use Rattle.mutator.proofs.answer_fence.Tie as tie
 
 returns : tie.Need-returns
-unfolding answerFenceStep
-returns c = rw (← c .refused .ensures) (search (needs, picks, c .before .if1 .taken, c .before .before .blank .ensures) depth 16)
+unfolding answerFenceTurn
+returns c = rw (← c .stops .ensures) (search (needs, picks, c .before .if1 .taken, c .before .before .blank .ensures) depth 16)
 
 returns-2 : tie.Need-returns-2
-unfolding answerFenceStep
-returns-2 c = rw (← c .before .before .before .before .fence .ensures, ← c .before .past-fence .ensures, ← c .goes .ensures) (search (needs, picks, c .before .before .if2 .taken, c .before .before .before .before .before .before .if1 .left, c .before .before .before .before .before .before .before .blank .ensures) depth 16)
+unfolding answerFenceTurn
+returns-2 c = rw (← c .before .before .before .before .fence .ensures, ← c .before .past-fence .ensures, ← c .goes .ensures) (search (needs, picks, c .before .before .if2 .taken, c .before .before .before .before .before .if1 .left, c .before .before .before .before .before .before .blank .ensures) depth 16)
 
 returns-3 : tie.Need-returns-3
-unfolding answerFenceStep
-returns-3 c = rw (← c .before .before .before .fence .ensures, ← c .refused2 .ensures) (search (needs, picks, c .before .if2 .left, c .before .before .before .before .before .if1 .left, c .before .before .before .before .before .before .blank .ensures) depth 16)
+unfolding answerFenceTurn
+returns-3 c = rw (← c .before .before .before .fence .ensures, ← c .stops2 .ensures) (search (needs, picks, c .before .if2 .left, c .before .before .before .before .if1 .left, c .before .before .before .before .before .blank .ensures) depth 16)
 
 pub answer-fence-spec : {M : Type 1} → statement M
-answer-fence-spec =
-    tie.close
-    (tie.spec
-    (search needs)
-    (search needs)
-    returns
-    (search needs)
-    (search needs)
-    (search needs)
-    returns-2
-    (search needs)
-    returns-3)
+answer-fence-spec = tie.close (tie.spec (search needs) (search needs) returns (search needs) (search needs) (search needs) returns-2 (search needs) returns-3)

@@ -1,30 +1,20 @@
 use borrow.Author.Needs.{needs}
 use Rattle.base.proofs.Picks.{picks}
-use Rattle.mutator.specs.Mutators.{fenceStep}
+use Rattle.mutator.specs.Turns.{fenceTurn}
 use Rattle.mutator.proofs.fence.Statement.{statement}
 use Rattle.mutator.proofs.fence.Tie as tie
 
 returns : tie.Need-returns
-unfolding fenceStep
-returns c = rw (← c .refused .ensures) (search (needs, picks, c .before .if1 .taken, c .before .before .bare .ensures) depth 16)
+unfolding fenceTurn
+returns c = rw (← c .before .before .bare .ensures, ← c .stops .ensures) (search (needs, picks, c .before .if1 .taken) depth 16)
 
 returns-2 : tie.Need-returns-2
-unfolding fenceStep
-returns-2 c = rw (← c .before .before .before .fence .ensures, ← c .goes .ensures) (search (needs, picks, c .before .if2 .taken, c .before .before .before .before .before .if1 .left, c .before .before .before .before .before .before .bare .ensures) depth 16)
+unfolding fenceTurn
+returns-2 c = rw (← c .before .before .before .before .before .bare .ensures, ← c .before .before .before .fence .ensures, ← c .goes .ensures) (search (needs, picks, c .before .if2 .taken, c .before .before .before .before .if1 .left) depth 16)
 
 returns-3 : tie.Need-returns-3
-unfolding fenceStep
-returns-3 c = rw (← c .before .before .before .fence .ensures, ← c .refused2 .ensures) (search (needs, picks, c .before .if2 .left, c .before .before .before .before .before .if1 .left, c .before .before .before .before .before .before .bare .ensures) depth 16)
+unfolding fenceTurn
+returns-3 c = rw (← c .before .before .before .before .before .bare .ensures, ← c .before .before .before .fence .ensures, ← c .stops2 .ensures) (search (needs, picks, c .before .if2 .left, c .before .before .before .before .if1 .left) depth 16)
 
 pub fence-spec : {M : Type 1} → statement M
-fence-spec =
-    tie.close
-    (tie.spec
-    (search needs)
-    (search needs)
-    returns
-    (search needs)
-    (search needs)
-    returns-2
-    (search needs)
-    returns-3)
+fence-spec = tie.close (tie.spec (search needs) (search needs) returns (search needs) (search needs) returns-2 (search needs) returns-3)

@@ -1,31 +1,20 @@
 use borrow.Author.Needs.{needs}
 use Rattle.base.proofs.Picks.{picks}
-use Rattle.mutator.specs.Mutators.{storeStep}
+use Rattle.mutator.specs.Turns.{storeTurn}
 use Rattle.mutator.proofs.store.Statement.{statement}
 use Rattle.mutator.proofs.store.Tie as tie
 
 returns : tie.Need-returns
-unfolding storeStep
-returns c = rw (← c .refused .ensures) (search (needs, picks, c .before .if1 .taken, c .before .before .is-store .ensures) depth 16)
+unfolding storeTurn
+returns c = rw (← c .stops .ensures) (search (needs, picks, c .before .if1 .taken, c .before .before .is-store .ensures) depth 16)
 
 returns-2 : tie.Need-returns-2
-unfolding storeStep
-returns-2 c = rw (← c .before .before .before .before .look-field .ensures, ← c .before .storing .ensures, ← c .goes .ensures) (search (needs, picks, c .before .before .if2 .taken, c .before .before .before .before .before .before .if1 .left, c .before .before .before .before .before .before .before .is-store .ensures) depth 16)
+unfolding storeTurn
+returns-2 c = rw (← c .before .before .before .before .look-field .ensures, ← c .before .storing .ensures, ← c .goes .ensures) (search (needs, picks, c .before .before .if2 .taken, c .before .before .before .before .before .if1 .left, c .before .before .before .before .before .before .is-store .ensures) depth 16)
 
 returns-3 : tie.Need-returns-3
-unfolding storeStep
-returns-3 c = rw (← c .before .before .before .look-field .ensures, ← c .refused2 .ensures) (search (needs, picks, c .before .if2 .left, c .before .before .before .before .before .if1 .left, c .before .before .before .before .before .before .is-store .ensures) depth 16)
+unfolding storeTurn
+returns-3 c = rw (← c .before .before .before .look-field .ensures, ← c .stops2 .ensures) (search (needs, picks, c .before .if2 .left, c .before .before .before .before .if1 .left, c .before .before .before .before .before .is-store .ensures) depth 16)
 
 pub store-spec : {M : Type 1} → statement M
-store-spec =
-    tie.close
-    (tie.spec
-    (search needs)
-    (search needs)
-    returns
-    (search needs)
-    (search needs)
-    (search needs)
-    returns-2
-    (search needs)
-    returns-3)
+store-spec = tie.close (tie.spec (search needs) (search needs) returns (search needs) (search needs) (search needs) returns-2 (search needs) returns-3)

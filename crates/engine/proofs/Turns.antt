@@ -1,0 +1,210 @@
+-- One record's turn comes to its step; and a turn's answer, part by part. Assumes nothing.
+--     inner-settles                    the turn of a record, settled, is the record's step
+--     parts-taken, parts-refused       a turn's answer, by memory's answer to its act
+--     settled-sized                    it leaves as many places as there were
+--     alone-settles, memory-settles    so where it reaches no further than that
+--     small-way                        then its process has its place in the state
+--     seat-there, -small, seated-here  a process read where it stands
+--     turned-here, settled-step        the turn of a record, with what is read so, and its step
+--     alone-step, memory-step, -stops  that step, by how far the turn reaches
+use mathlib.Core.Bool.{Bool, true, false}
+use mathlib.Core.Path.{_≡_, refl, sym, ap, _∙_}
+use Prim.Native.Nat.{ℕ, _≤_, _<_}
+use native.Mathlib.Omega.{arith}
+use native.Mathlib.Decide.{decLt}
+use lib.Dec.{eqb, leb, ltb}
+use lib.ListN.{length, getD, length-set}
+use borrow.Author.Tests.{eqb-true, ltb-false, lt-ltb, le-ltb, le-leb, lt-leb, eq-eqb, ne-eqb}
+use Rattle.base.specs.Pick.{pick}
+use Rattle.base.proofs.Lists.{beyond}
+use Rattle.memory.specs.declared.Done.{Done}
+use Rattle.memory.specs.Memories.{maxMutators, maxProcesses}
+use Rattle.memory.specs.Steps.{commitOf}
+use Rattle.state.specs.declared.Process.{Process}
+use Rattle.state.specs.declared.State.{State}
+use Rattle.state.specs.declared.Choice.{Choice}
+use Rattle.state.specs.declared.Answer.{Answer}
+use Rattle.state.specs.declared.turns.Act.{Act}
+use Rattle.state.specs.declared.turns.Act.the-variants as act
+use Rattle.state.specs.declared.turns.Turn.{Turn}
+use Rattle.state.specs.States.{noProcess, processOf, withMemory, refusedOf, takenOf, goesOf, actsOf}
+use Rattle.state.specs.Settles.{answeredOf, actedOf, settledOf}
+use Rattle.state.specs.Handshakes.{outOfStep, allOut, raisedOf}
+use Rattle.state.proofs.Settles.{settles}
+use Rattle.mutator.proofs.Turns.{mutator-turn}
+use Rattle.collector.proofs.Turns.{collector-turn}
+use Rattle.rows.proofs.Picking.{picked}
+use Rattle.rows.proofs.Lists.{put-back}
+use Rattle.engine.specs.Steps.{commitStep, ownStep, innerOf}
+use Rattle.engine.specs.Turns.{commitTurn, ownTurn, innerTurn, InnerSettles, doneOf, listedOf, typedOf, shakenOf, alone, toMemory, toWhole, reachOf, wayOf, AloneSettles, MemorySettles, SmallWay, seatOf, seatedOf, turnedOf, turnIn}
+
+module _ (s : State) (c : Choice) where
+  -- the process stays as it is
+  committed : settledOf s (c .process) (record { process = processOf s (c .process); act = act.Commits; no = 0 }) ≡ (let k = commitOf (s .memory) (c .process) in pick (eqb (k .no) 0) (takenOf (withMemory s (k .memory))) (refusedOf (k .no) s))
+  unfolding settledOf
+  committed =
+      let k = commitOf (s .memory) (c .process) in
+      ap (λ (t : State). pick (eqb (k .no) 0) (takenOf t) (refusedOf (k .no) s)) (put-back (withMemory s (k .memory)) (c .process))
+
+  commit-turn : settledOf s (c .process) (commitTurn c (processOf s (c .process))) ≡ commitStep s c
+  unfolding settledOf commitTurn commitStep
+  commit-turn = search (settles, committed)
+
+  own-turn : settledOf s (c .process) (ownTurn (s .memory) (s .hands) (processOf s (c .x) .part .raised) c (processOf s (c .process))) ≡ ownStep s c
+  unfolding ownTurn ownStep
+  own-turn = search (settles, mutator-turn, collector-turn)
+
+pub inner-settles : InnerSettles
+unfolding settledOf innerTurn innerOf
+inner-settles s c = search (settles, own-turn, commit-turn)
+
+-- ---- an act, part by part
+acted-parts : (s : State) (p : ℕ) (q : Process) (a : Act) → actedOf s p q a ≡ (let d = doneOf (s .memory) p a in pick (eqb (d .no) 0) (goesOf (shakenOf (withMemory s (d .memory)) a) p q) (refusedOf (d .no) s))
+unfolding listedOf typedOf
+acted-parts s p q act.Nothing = refl
+acted-parts s p q (act.Writes v) = refl
+acted-parts s p q act.Commits = refl
+acted-parts s p q act.Locks = refl
+acted-parts s p q act.Unlocks = refl
+acted-parts s p q (act.Allocates x) = refl
+acted-parts s p q (act.Frees x) = refl
+acted-parts s p q (act.Lists w) = refl
+acted-parts s p q (act.Types k) = refl
+acted-parts s p q (act.Raises x) = refl
+
+module _ (s : State) (p : ℕ) (t : Turn) (d : Done) (zero : t .no ≡ 0) (e : d ≡ doneOf (s .memory) p (t .act)) where
+  parts : settledOf s p t ≡ pick (eqb (d .no) 0) (goesOf (shakenOf (withMemory s (d .memory)) (t .act)) p (t .process)) (refusedOf (d .no) s)
+  unfolding settledOf
+  parts = rw (zero, e) (acted-parts s p (t .process) (t .act))
+
+  pub parts-taken : d .no ≡ 0 → settledOf s p t ≡ goesOf (shakenOf (withMemory s (d .memory)) (t .act)) p (t .process)
+  parts-taken h = parts ∙ ap (λ (b : Bool). pick b (goesOf (shakenOf (withMemory s (d .memory)) (t .act)) p (t .process)) (refusedOf (d .no) s)) (eq-eqb (d .no) 0 h)
+
+  pub parts-refused : (d .no ≡ 0 → ⊥) → settledOf s p t ≡ refusedOf (d .no) s
+  parts-refused h = parts ∙ ap (λ (b : Bool). pick b (goesOf (shakenOf (withMemory s (d .memory)) (t .act)) p (t .process)) (refusedOf (d .no) s)) (ne-eqb (d .no) 0 h)
+
+-- ---- no turn changes how many places a state has
+module _ (s : State) (p : ℕ) (q : Process) where
+  abbrev Sized : Answer → Type 0
+  Sized a = length (a .state .procs) ≡ length (s .procs)
+
+  answered-sized : (d : Done) → Sized (answeredOf s p q d)
+  answered-sized d = picked Sized (eqb (d .no) 0) (length-set (s .procs) p q) refl
+
+  acted-sized : (a : Act) → Sized (actedOf s p q a)
+  unfolding allOut outOfStep raisedOf
+  acted-sized act.Nothing = length-set (s .procs) p q
+  acted-sized (act.Writes v) = answered-sized (doneOf (s .memory) p (act.Writes v))
+  acted-sized act.Commits = answered-sized (doneOf (s .memory) p act.Commits)
+  acted-sized act.Locks = answered-sized (doneOf (s .memory) p act.Locks)
+  acted-sized act.Unlocks = answered-sized (doneOf (s .memory) p act.Unlocks)
+  acted-sized (act.Allocates x) = answered-sized (doneOf (s .memory) p (act.Allocates x))
+  acted-sized (act.Frees x) = answered-sized (doneOf (s .memory) p (act.Frees x))
+  acted-sized (act.Lists w) = length-set (s .procs) p q
+  acted-sized (act.Types k) = simp length-set
+  acted-sized (act.Raises x) = simp length-set
+
+pub settled-sized : (s : State) (p : ℕ) (t : Turn) → length (settledOf s p t .state .procs) ≡ length (s .procs)
+unfolding settledOf
+settled-sized s p t = picked (Sized s p (t .process)) (eqb (t .no) 0) (acted-sized s p (t .process) (t .act)) refl
+
+-- ---- how far it reaches
+record Small (p n : ℕ) (t : Turn) : Type 0 where
+  taken : t .no ≡ 0
+  there : p ≤ maxMutators
+  reach : reachOf (t .act) ≡ n
+
+small : (p n : ℕ) (t : Turn) → wayOf p t ≡ n → (n ≡ toWhole → ⊥) → Small p n t
+unfolding wayOf
+small p n t e h = go (eqb (t .no) 0) (ltb maxMutators p) refl refl e
+  where
+    go : (a b : Bool) → eqb (t .no) 0 ≡ a → ltb maxMutators p ≡ b → pick a (pick b toWhole (reachOf (t .act))) toWhole ≡ n → Small p n t
+    go true true f g e = absurd (h (sym e))
+    go true false f g e = record { taken = eqb-true (t .no) 0 f; there = ltb-false maxMutators p g; reach = e }
+    go false b f g e = absurd (h (sym e))
+
+acts-alone : (s : State) (p : ℕ) (q : Process) (a : Act) → reachOf a ≡ alone → actedOf s p q a ≡ goesOf s p q
+acts-alone s p q act.Nothing e = refl
+acts-alone s p q (act.Writes v) e = absurd (omega arith)
+acts-alone s p q act.Commits e = absurd (omega arith)
+acts-alone s p q act.Locks e = absurd (omega arith)
+acts-alone s p q act.Unlocks e = absurd (omega arith)
+acts-alone s p q (act.Allocates x) e = absurd (omega arith)
+acts-alone s p q (act.Frees x) e = absurd (omega arith)
+acts-alone s p q (act.Lists w) e = absurd (omega arith)
+acts-alone s p q (act.Types k) e = absurd (omega arith)
+acts-alone s p q (act.Raises x) e = absurd (omega arith)
+
+acts-memory : (s : State) (p : ℕ) (q : Process) (a : Act) → reachOf a ≡ toMemory → actedOf s p q a ≡ answeredOf s p q (doneOf (s .memory) p a)
+acts-memory s p q act.Nothing e = absurd (omega arith)
+acts-memory s p q (act.Writes v) e = refl
+acts-memory s p q act.Commits e = refl
+acts-memory s p q act.Locks e = refl
+acts-memory s p q act.Unlocks e = refl
+acts-memory s p q (act.Allocates x) e = refl
+acts-memory s p q (act.Frees x) e = refl
+acts-memory s p q (act.Lists w) e = absurd (omega arith)
+acts-memory s p q (act.Types k) e = absurd (omega arith)
+acts-memory s p q (act.Raises x) e = absurd (omega arith)
+
+pub alone-settles : AloneSettles
+unfolding settledOf
+alone-settles s p t e = let w = small p alone t e (λ h. omega arith) in rw (w .taken) (acts-alone s p (t .process) (t .act) (w .reach))
+
+pub memory-settles : MemorySettles
+unfolding settledOf
+memory-settles s p t e = let w = small p toMemory t e (λ h. omega arith) in rw (w .taken) (acts-memory s p (t .process) (t .act) (w .reach))
+
+pub small-way : SmallWay
+small-way p t h = let w = small p (wayOf p t) t refl h in omega (arith, w .there)
+
+-- ---- a process read where it stands
+pub seat-there : (p : ℕ) → p < maxProcesses → seatOf p ≡ p
+unfolding seatOf
+seat-there p h = rw (lt-leb maxProcesses p h) refl
+
+pub seat-small : (p : ℕ) → seatOf p < maxProcesses
+unfolding seatOf
+seat-small p = go (decLt p maxProcesses)
+  where
+    go : Dec (p < maxProcesses) → pick (leb maxProcesses p) 0 p < maxProcesses
+    go (yes h) = rw (lt-leb maxProcesses p h) h
+    go (no h) = rw (le-leb maxProcesses p (omega (arith, h))) (omega arith)
+
+pub seated-here : (s : State) (p : ℕ) → length (s .procs) ≡ maxProcesses → seatedOf p (getD (s .procs) (seatOf p) noProcess) ≡ processOf s p
+unfolding seatOf seatedOf
+seated-here s p e = go (decLt p maxProcesses)
+  where
+    go : Dec (p < maxProcesses) → pick (ltb maxMutators p) noProcess (getD (s .procs) (pick (leb maxProcesses p) 0 p) noProcess) ≡ getD (s .procs) p noProcess
+    go (yes h) = rw (le-ltb maxMutators p (omega arith)) refl
+    go (no h) = rw (lt-ltb maxMutators p (omega (arith, h))) (sym (beyond (s .procs) noProcess p maxProcesses e (omega (arith, h))))
+
+-- ---- a record's step, by its turn t
+pub turned-here :
+    (s : State) (c : Choice) (t : Turn) (i j : ℕ) → length (s .procs) ≡ maxProcesses → i ≡ seatOf (c .process) → j ≡ seatOf (c .x)
+    → t ≡ turnedOf (s .memory) (s .hands) c (getD (s .procs) i noProcess) (getD (s .procs) j noProcess) → t ≡ turnIn s c
+unfolding turnedOf
+turned-here s c t i j l f g e = e ∙ rw (f, g, seated-here s (c .process) l, seated-here s (c .x) l) refl
+
+module _ (s : State) (c : Choice) (t : Turn) (e : t ≡ turnIn s c) where
+  pub settled-step : settledOf s (c .process) t ≡ innerOf s c
+  settled-step = ap (settledOf s (c .process)) e ∙ inner-settles s c
+
+  -- the process alone: its place in the state is set
+  pub alone-step : (i : ℕ) → i ≡ seatOf (c .process) → wayOf (c .process) t ≡ alone → innerOf s c ≡ goesOf s i (t .process)
+  alone-step i f w =
+      let h = small-way (c .process) t (λ (g : wayOf (c .process) t ≡ toWhole). omega arith) in
+      sym settled-step ∙ alone-settles s (c .process) t w ∙ ap (λ (p : ℕ). goesOf s p (t .process)) (sym (f ∙ seat-there (c .process) h))
+
+  module _ (d : Done) (k : d ≡ doneOf (s .memory) (c .process) (t .act)) (w : wayOf (c .process) t ≡ toMemory) where
+    answered-step : innerOf s c ≡ answeredOf s (c .process) (t .process) d
+    answered-step = sym settled-step ∙ memory-settles s (c .process) t w ∙ ap (answeredOf s (c .process) (t .process)) (sym k)
+
+    pub memory-step : (i : ℕ) → i ≡ seatOf (c .process) → d .no ≡ 0 → innerOf s c ≡ actsOf s (d .memory) i (t .process)
+    memory-step i f z =
+        let h = small-way (c .process) t (λ (g : wayOf (c .process) t ≡ toWhole). omega arith) in
+        answered-step ∙ ap (λ (b : Bool). pick b (actsOf s (d .memory) (c .process) (t .process)) (refusedOf (d .no) s)) (eq-eqb (d .no) 0 z)
+        ∙ ap (λ (p : ℕ). actsOf s (d .memory) p (t .process)) (sym (f ∙ seat-there (c .process) h))
+
+    pub memory-stops : (d .no ≡ 0 → ⊥) → innerOf s c .no ≡ d .no
+    memory-stops z = ap (λ (a : Answer). a .no) (answered-step ∙ ap (λ (b : Bool). pick b (actsOf s (d .memory) (c .process) (t .process)) (refusedOf (d .no) s)) (ne-eqb (d .no) 0 z))

@@ -1,0 +1,134 @@
+-- One record's step as a turn, and what a turn makes of the state part by part: so that a run can change its state in place. Assumes nothing.
+use mathlib.Core.Bool.{Bool}
+use mathlib.Core.Path.{_≡_}
+use Prim.Native.Nat.{ℕ, _<_}
+use lib.Dec.{eqb, leb, ltb}
+use Rattle.base.specs.Pick.{pick}
+use Rattle.memory.specs.declared.Memory.{Memory}
+use Rattle.memory.specs.declared.Done.{Done}
+use Rattle.memory.specs.Memories.{maxMutators, maxProcesses, taken}
+use Rattle.memory.specs.Steps.{writeOf, commitOf, lockOf, unlockOf, allocateOf, freeOf}
+use Rattle.state.specs.declared.Kind.{Kind}
+use Rattle.state.specs.declared.Process.{Process}
+use Rattle.state.specs.declared.Hands.{Hands}
+use Rattle.state.specs.declared.State.{State}
+use Rattle.state.specs.declared.Choice.{Choice}
+use Rattle.state.specs.declared.turns.Act.{Act}
+use Rattle.state.specs.declared.turns.Act.the-variants as act
+use Rattle.state.specs.declared.turns.Turn.{Turn}
+use Rattle.state.specs.Codes.{notThere, noSuchKind, notOffered}
+use Rattle.state.specs.States.{noProcess, processOf, withHands, goesOf}
+use Rattle.state.specs.Choices.{isBlank}
+use Rattle.state.specs.Turns.{stopping, doing}
+use Rattle.state.specs.Handshakes.{allOut, typed, raisedOf}
+use Rattle.state.specs.Settles.{listed, answeredOf, settledOf}
+use Rattle.mutator.specs.Turns.{mutatorTurn}
+use Rattle.collector.specs.Turns.{collectorTurn}
+use Rattle.engine.specs.Steps.{innerOf}
+
+-- ---- the turn of a record
+-- "A commit applies one's oldest store, unblocked."
+unfoldable pub commitTurn : Choice → Process → Turn
+commitTurn c q = pick (isBlank c) (doing act.Commits q) (stopping notOffered q)
+
+-- an own step: the collector's program, or a mutator's
+unfoldable pub ownTurn : Memory → Hands → Bool → Choice → Process → Turn
+ownTurn m h up c q = pick (eqb (c .process) 0) (collectorTurn m h up c q) (mutatorTurn m h c q)
+
+-- 2: "the process is above M"; 3: "the kind is not 0 (own step) or 1 (commit)"
+unfoldable pub innerTurn : Memory → Hands → Bool → Choice → Process → Turn
+innerTurn m h up c q =
+    pick (leb (m .processes) (c .process)) (stopping notThere q)
+    (pick (eqb (c .kind) 0) (ownTurn m h up c q)
+    (pick (eqb (c .kind) 1) (commitTurn c q)
+    (stopping noSuchKind q)))
+
+-- the turn of the record's process in a state
+abbrev pub turnIn : State → Choice → Turn
+turnIn s c = innerTurn (s .memory) (s .hands) (processOf s (c .x) .part .raised) c (processOf s (c .process))
+
+-- it comes to the record's step
+abbrev pub InnerSettles : Type 0
+InnerSettles = (s : State) (c : Choice) → settledOf s (c .process) (turnIn s c) ≡ innerOf s c
+
+-- ---- a turn's act, part by part
+-- memory's answer to it; an act that is not memory's leaves it as it is
+abbrev pub doneOf : Memory → ℕ → Act → Done
+doneOf m p act.Nothing = taken m
+doneOf m p (act.Writes v) = writeOf m p (record { store = v })
+doneOf m p act.Commits = commitOf m p
+doneOf m p act.Locks = lockOf m p
+doneOf m p act.Unlocks = unlockOf m p
+doneOf m p (act.Allocates x) = allocateOf m p x
+doneOf m p (act.Frees x) = freeOf m p x
+doneOf m p (act.Lists w) = taken m
+doneOf m p (act.Types k) = taken m
+doneOf m p (act.Raises x) = taken m
+
+-- what it makes of the handshakes
+unfoldable pub listedOf : State → ℕ → State
+listedOf s w = withHands s (listed (s .hands) w)
+
+unfoldable pub typedOf : State → Kind → State
+typedOf s k = allOut (withHands s (typed (s .hands) k))
+
+abbrev pub shakenOf : State → Act → State
+shakenOf s act.Nothing = s
+shakenOf s (act.Writes v) = s
+shakenOf s act.Commits = s
+shakenOf s act.Locks = s
+shakenOf s act.Unlocks = s
+shakenOf s (act.Allocates x) = s
+shakenOf s (act.Frees x) = s
+shakenOf s (act.Lists w) = listedOf s w
+shakenOf s (act.Types k) = typedOf s k
+shakenOf s (act.Raises x) = raisedOf s x
+
+-- ---- how far a turn reaches: to its process alone, to memory too, or to the whole state
+abbrev pub alone : ℕ
+alone = 0
+
+abbrev pub toMemory : ℕ
+toMemory = 1
+
+abbrev pub toWhole : ℕ
+toWhole = 2
+
+abbrev pub reachOf : Act → ℕ
+reachOf act.Nothing = alone
+reachOf (act.Writes v) = toMemory
+reachOf act.Commits = toMemory
+reachOf act.Locks = toMemory
+reachOf act.Unlocks = toMemory
+reachOf (act.Allocates x) = toMemory
+reachOf (act.Frees x) = toMemory
+reachOf (act.Lists w) = toWhole
+reachOf (act.Types k) = toWhole
+reachOf (act.Raises x) = toWhole
+
+-- a refusal, and a process that no state has a place for, count as the whole
+unfoldable pub wayOf : ℕ → Turn → ℕ
+wayOf p t = pick (eqb (t .no) 0) (pick (ltb maxMutators p) toWhole (reachOf (t .act))) toWhole
+
+-- such a turn is taken
+abbrev pub AloneSettles : Type 0
+AloneSettles = (s : State) (p : ℕ) (t : Turn) → wayOf p t ≡ alone → settledOf s p t ≡ goesOf s p (t .process)
+
+-- such a turn is as memory answers
+abbrev pub MemorySettles : Type 0
+MemorySettles = (s : State) (p : ℕ) (t : Turn) → wayOf p t ≡ toMemory → settledOf s p t ≡ answeredOf s p (t .process) (doneOf (s .memory) p (t .act))
+
+-- and its process has its place in the state
+abbrev pub SmallWay : Type 0
+SmallWay = (p : ℕ) (t : Turn) → (wayOf p t ≡ toWhole → ⊥) → p < maxProcesses
+
+-- ---- a process read where it stands; past the last is nobody
+unfoldable pub seatOf : ℕ → ℕ
+seatOf p = pick (leb maxProcesses p) 0 p
+
+unfoldable pub seatedOf : ℕ → Process → Process
+seatedOf p q = pick (ltb maxMutators p) noProcess q
+
+-- the turn of a record, where q and other stand at the seats of the process and of the mutator that it names
+unfoldable pub turnedOf : Memory → Hands → Choice → Process → Process → Turn
+turnedOf m h c q other = innerTurn m h (seatedOf (c .x) other .part .raised) c (seatedOf (c .process) q)

@@ -1,0 +1,13 @@
+use borrow.Author.Needs.{needs}
+use Rattle.base.proofs.Picks.{picks}
+use Rattle.mutator.proofs.is_cell.Statement.{statement}
+use Rattle.mutator.proofs.is_cell.Tie as tie
+
+returns : tie.Need-returns
+returns c = search (needs, picks, c .if1 .taken) depth 16
+
+returns-2 : tie.Need-returns-2
+returns-2 c = search (needs, picks, c .if1 .left) depth 16
+
+pub is-cell-spec : {M : Type 1} → statement M
+is-cell-spec = tie.close (tie.spec returns returns-2)

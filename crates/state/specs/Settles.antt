@@ -1,0 +1,39 @@
+-- What a turn makes of the state: its act, which memory may refuse, and its process. Assumes nothing.
+use Prim.Native.Nat.{ℕ}
+use lib.Dec.{eqb}
+use Rattle.base.specs.Pick.{pick}
+use Rattle.memory.specs.declared.Done.{Done}
+use Rattle.memory.specs.Steps.{writeOf, commitOf, lockOf, unlockOf, allocateOf, freeOf}
+use Rattle.state.specs.declared.Process.{Process}
+use Rattle.state.specs.declared.Hands.{Hands}
+use Rattle.state.specs.declared.State.{State}
+use Rattle.state.specs.declared.Answer.{Answer}
+use Rattle.state.specs.declared.turns.Act.{Act}
+use Rattle.state.specs.declared.turns.Act.the-variants as act
+use Rattle.state.specs.declared.turns.Turn.{Turn}
+use Rattle.state.specs.States.{withHands, refusedOf, goesOf, actsOf}
+use Rattle.state.specs.Handshakes.{allOut, typed, raisedOf}
+
+-- the system's part with another work list
+abbrev pub listed : Hands → ℕ → Hands
+listed h w = record { kind = h .kind; phase = h .phase; work = w }
+
+-- memory's answer to an act of process p, which becomes q where it is taken
+abbrev pub answeredOf : State → ℕ → Process → Done → Answer
+answeredOf s p q k = pick (eqb (k .no) 0) (actsOf s (k .memory) p q) (refusedOf (k .no) s)
+
+abbrev pub actedOf : State → ℕ → Process → Act → Answer
+actedOf s p q act.Nothing = goesOf s p q
+actedOf s p q (act.Writes v) = answeredOf s p q (writeOf (s .memory) p (record { store = v }))
+actedOf s p q act.Commits = answeredOf s p q (commitOf (s .memory) p)
+actedOf s p q act.Locks = answeredOf s p q (lockOf (s .memory) p)
+actedOf s p q act.Unlocks = answeredOf s p q (unlockOf (s .memory) p)
+actedOf s p q (act.Allocates x) = answeredOf s p q (allocateOf (s .memory) p x)
+actedOf s p q (act.Frees x) = answeredOf s p q (freeOf (s .memory) p x)
+actedOf s p q (act.Lists w) = goesOf (withHands s (listed (s .hands) w)) p q
+actedOf s p q (act.Types k) = goesOf (allOut (withHands s (typed (s .hands) k))) p q
+actedOf s p q (act.Raises x) = goesOf (raisedOf s x) p q
+
+-- the answer that a turn of process p comes to
+unfoldable pub settledOf : State → ℕ → Turn → Answer
+settledOf s p t = pick (eqb (t .no) 0) (actedOf s p (t .process) (t .act)) (refusedOf (t .no) s)
