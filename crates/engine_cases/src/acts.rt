@@ -27,7 +27,7 @@ pub struct Act {
 }
 
 // A change, behind its sign.
-pub fn change(s: &[u8]) -> Act {
+pub(crate) fn change(s: &[u8]) -> Act {
     Act {
         letter: text::byte(s, 1),
         p: text::digit(s, 2),
@@ -131,7 +131,7 @@ fn in_process(mut q: Process, a: Act) -> Process {
 }
 
 // A capital changes a process, any other letter memory.
-pub fn changed(mut s: State, a: Act) -> State {
+pub(crate) fn changed(mut s: State, a: Act) -> State {
     if a.letter <= b'Z' {
         let q = s.process(a.p);
         return s.with_process(a.p, in_process(q, a));
@@ -142,7 +142,7 @@ pub fn changed(mut s: State, a: Act) -> State {
 }
 
 // Process p holds the lock.
-pub fn held(mut s: State, p: u8) -> State {
+pub(crate) fn held(mut s: State, p: u8) -> State {
     let m = s.memory;
     s.memory = left_by(m.take_lock(p));
     s

@@ -69,7 +69,7 @@ fn staged(q: Process, place: u8, stage: u8) -> Process {
 }
 
 // The process at the place and the stage, with its roots and its part in the handshakes as they were.
-pub fn fitting(was: Process, place: u8, stage: u8) -> Process {
+pub(crate) fn fitting(was: Process, place: u8, stage: u8) -> Process {
     let mut q = was;
     q.place = place;
     q.stage = stage;

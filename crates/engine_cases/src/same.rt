@@ -65,7 +65,7 @@ fn memory(a: Memory, b: Memory, p: u8) -> bool {
     senses(a, b)
 }
 
-pub fn state(a: State, b: State, p: u8) -> bool {
+pub(crate) fn state(a: State, b: State, p: u8) -> bool {
     if !process(a.process(p), b.process(p)) {
         return false;
     }

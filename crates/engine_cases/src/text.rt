@@ -1,5 +1,5 @@
 // Bytes of the input.
-pub fn byte(s: &[u8], i: usize) -> u8 {
+pub(crate) fn byte(s: &[u8], i: usize) -> u8 {
     if i < s.len() {
         return s[i];
     }
@@ -7,7 +7,7 @@ pub fn byte(s: &[u8], i: usize) -> u8 {
 }
 
 // A digit; a star is 255, and what is below the digits is 0.
-pub fn digit(s: &[u8], i: usize) -> u8 {
+pub(crate) fn digit(s: &[u8], i: usize) -> u8 {
     let b = byte(s, i);
     if b == b'*' {
         return 255;
@@ -16,7 +16,7 @@ pub fn digit(s: &[u8], i: usize) -> u8 {
 }
 
 // How far the line goes on.
-pub fn rest(s: &[u8]) -> usize {
+pub(crate) fn rest(s: &[u8]) -> usize {
     let mut i = 0;
     while i < s.len() {
         if s[i] == b'\n' {

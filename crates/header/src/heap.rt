@@ -114,7 +114,7 @@ fn roots(log: &[u8], n: u8, m: u8) -> [u64; Layout::ROOT_SETS]
 }
 
 // The heap of n cells and m mutators. A u8 has room for m and the collector.
-pub fn read(log: &[u8], n: u8, m: u8) -> Heap
+pub(crate) fn read(log: &[u8], n: u8, m: u8) -> Heap
     requires { ⌜ m ≤ maxMutators ⌝ }
     ensures { λ r. ⌜ r ≡ readHeap (now (log .entry)) n m ⌝ }
 {

@@ -78,7 +78,7 @@ const TABLE: [u8; 645] = *b"\
         \x01\x00\x00\x02\x00\x00\x04\x00";
 
 // The table: it is the one that `Marked` is proved of.
-pub fn marked() -> [u8; 645]
+pub(crate) fn marked() -> [u8; 645]
     ensures { λ r. ⌜ r ≡ tableBytes table ⌝ }
 {
     TABLE

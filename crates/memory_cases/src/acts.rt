@@ -212,7 +212,7 @@ fn poke(m: Memory, a: Act) -> Memory {
 }
 
 // A digit pokes, a capital looks, and any other letter is a step.
-pub fn act(m: Memory, a: Act) -> Memory {
+pub(crate) fn act(m: Memory, a: Act) -> Memory {
     if a.letter <= b'9' {
         return poke(m, a);
     }

@@ -53,7 +53,7 @@ fn above() {
     );
 }
 
-pub fn lines() {
+pub(crate) fn lines() {
     processes();
     lengths();
     null();

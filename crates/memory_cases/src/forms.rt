@@ -86,7 +86,7 @@ fn others() {
     );
 }
 
-pub fn lines() {
+pub(crate) fn lines() {
     counts();
     ranges();
     cells();

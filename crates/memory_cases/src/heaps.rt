@@ -55,7 +55,7 @@ fn commits() {
     );
 }
 
-pub fn lines() {
+pub(crate) fn lines() {
     allocation();
     again();
     looks();

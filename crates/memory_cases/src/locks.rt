@@ -49,7 +49,7 @@ fn numbers() {
     );
 }
 
-pub fn lines() {
+pub(crate) fn lines() {
     blocked();
     holder();
     held();

@@ -84,7 +84,7 @@ fn other_spots() {
     );
 }
 
-pub fn lines() {
+pub(crate) fn lines() {
     store_buffering();
     message_passing();
     own_stores();

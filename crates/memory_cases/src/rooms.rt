@@ -25,7 +25,7 @@ fn empty() {
     );
 }
 
-pub fn lines() {
+pub(crate) fn lines() {
     full();
     empty();
 }

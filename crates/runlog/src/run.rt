@@ -117,7 +117,7 @@ fn records(log: &[u8], at: u32, start: State, whole: u32) -> Run
 }
 
 // The run of all that follows the header.
-pub fn played(log: &[u8], s: State) -> Run
+pub(crate) fn played(log: &[u8], s: State) -> Run
     requires { ⌜ (sizeOf (now log) ≤ length (now log)) × (length (now log) ≤ maxLog) ⌝ }
     ensures { λ r. ⌜ r ≡ playedOf (now (log .entry)) s ⌝ }
 {

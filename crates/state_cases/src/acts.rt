@@ -34,7 +34,7 @@ pub struct Act {
 }
 
 // A change, behind its sign.
-pub fn change(s: &[u8]) -> Act {
+pub(crate) fn change(s: &[u8]) -> Act {
     Act {
         letter: text::byte(s, 1),
         p: text::digit(s, 2),
@@ -89,7 +89,7 @@ fn set(mut q: Process, letter: u8, s: u64) -> Process {
 }
 
 // A process with one note changed.
-pub fn noted(mut q: Process, letter: u8, v: u8) -> Process {
+pub(crate) fn noted(mut q: Process, letter: u8, v: u8) -> Process {
     match letter {
         b'X' => q.x = v,
         b'F' => q.f = v,
@@ -223,7 +223,7 @@ fn remembered(mut s: State, a: Act) -> State {
 }
 
 // A capital changes a process.
-pub fn changed(s: State, a: Act) -> State {
+pub(crate) fn changed(s: State, a: Act) -> State {
     let letter = a.letter;
     if letter <= b'Z' {
         let q = s.process(a.p);

@@ -4,7 +4,7 @@ use state::State;
 use state::opening::Heap;
 
 // Three cells, of which 1 and 2 are occupied and cell 1 names cell 2; two mutators, of which the first has the root 1.
-pub fn ground() -> State {
+pub(crate) fn ground() -> State {
     let mut field0 = [0; 32];
     field0[0] = 2;
     let field1 = [0; 32];
@@ -19,7 +19,7 @@ pub fn ground() -> State {
     })
 }
 
-pub fn answer(s: State) {
+pub(crate) fn answer(s: State) {
     if fits::well_formed(s) {
         io::write_all(1, b"yes");
     } else {
@@ -28,7 +28,7 @@ pub fn answer(s: State) {
 }
 
 // A heap with no cell occupied and no roots.
-pub fn bare(cells: u8, processes: u8) -> State {
+pub(crate) fn bare(cells: u8, processes: u8) -> State {
     let field0 = [0; 32];
     let field1 = [0; 32];
     let roots = [0; 4];
@@ -43,7 +43,7 @@ pub fn bare(cells: u8, processes: u8) -> State {
 }
 
 // The ground with process p replaced.
-pub fn seat(p: u8, q: Process) -> State {
+pub(crate) fn seat(p: u8, q: Process) -> State {
     let s = ground();
     s.with_process(p, q)
 }

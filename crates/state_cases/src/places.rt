@@ -85,7 +85,7 @@ fn marking(mut q: Process, place: u8, stage: u8) -> Process {
 }
 
 // A process that fits, at the place and the stage.
-pub fn fitting(place: u8, stage: u8) -> Process {
+pub(crate) fn fitting(place: u8, stage: u8) -> Process {
     let mut q = noted(Process::nobody(), place);
     q.place = place;
     q.stage = stage;
@@ -183,7 +183,7 @@ fn each(place: u8) {
     }
 }
 
-pub fn all() {
+pub(crate) fn all() {
     let mut place = 0;
     while place < 33 {
         each(place);

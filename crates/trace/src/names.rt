@@ -6,7 +6,7 @@ fn say(text: &[u8]) {
     io::write_all(1, text);
 }
 
-pub fn wide(x: u8) -> u64 {
+pub(crate) fn wide(x: u8) -> u64 {
     x as u64
 }
 
@@ -16,7 +16,7 @@ fn tell(x: u8) {
 }
 
 // The six numbers of a choice.
-pub fn choice(c: Choice) {
+pub(crate) fn choice(c: Choice) {
     tell(c.process);
     tell(c.kind);
     tell(c.op);
@@ -152,7 +152,7 @@ fn stage(q: Process) {
     }
 }
 
-pub fn place(q: Process) {
+pub(crate) fn place(q: Process) {
     if q.place <= Process::WORK_FINISH {
         mutator(q.place);
     } else {
@@ -162,7 +162,7 @@ pub fn place(q: Process) {
 }
 
 // Whose step it is, and which: a commit, an operation at top, else the place.
-pub fn step(c: Choice, q: Process) {
+pub(crate) fn step(c: Choice, q: Process) {
     if c.process == 0 {
         say(b"collector ");
     } else {

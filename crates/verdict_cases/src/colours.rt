@@ -15,11 +15,11 @@ fn whitened(m: Memory, i: usize) -> Memory {
 }
 
 // Cell 2 is white, and 1 names it.
-pub fn white_two() -> State {
+pub(crate) fn white_two() -> State {
     ground::with_memory(whitened(ground::memory(), 1))
 }
 
-pub fn all() {
+pub(crate) fn all() {
     // the black cell 1 has a first field naming 2
     ground::say(b"white in a first field", white_two());
     // the black cell 1 has a second field naming 3
@@ -54,7 +54,7 @@ pub fn all() {
     ground::say(b"free is not white", s.with_process(1, q));
 }
 
-pub fn greys() {
+pub(crate) fn greys() {
     // "on any work list": cell 1 on a mutator's, on the collector's, on the system's; then no black cell names 2
     let mut mutator = ground::process(2);
     mutator.work = 1;

@@ -8,7 +8,7 @@ use state::opening::Heap;
 
 // Six cells, of which 1 to 4 are occupied: 1 names 2 and 3, and 2 names 4. Two mutators: the first has the root 1, the second none.
 // Every mark is fM, so all four are black; nothing is white. Verdict 0.
-pub fn ground() -> State {
+pub(crate) fn ground() -> State {
     let mut field0 = [0; 32];
     field0[0] = 2;
     let mut field1 = [0; 32];
@@ -25,29 +25,29 @@ pub fn ground() -> State {
     })
 }
 
-pub fn memory() -> Memory {
+pub(crate) fn memory() -> Memory {
     let s = ground();
     s.memory
 }
 
-pub fn with_memory(m: Memory) -> State {
+pub(crate) fn with_memory(m: Memory) -> State {
     let mut s = ground();
     s.memory = m;
     s
 }
 
-pub fn process(p: u8) -> Process {
+pub(crate) fn process(p: u8) -> Process {
     let s = ground();
     s.process(p)
 }
 
-pub fn with_process(p: u8, q: Process) -> State {
+pub(crate) fn with_process(p: u8, q: Process) -> State {
     let s = ground();
     s.with_process(p, q)
 }
 
 // The ground with a store of process p pending.
-pub fn with_store(p: u8, store: Store) -> State {
+pub(crate) fn with_store(p: u8, store: Store) -> State {
     let m = memory();
     let done = m.write(p, Entry { store });
     let after = done.memory;
@@ -55,7 +55,7 @@ pub fn with_store(p: u8, store: Store) -> State {
 }
 
 // A mutator that is about to write y in field 0 of cell 1, and read old there: its honorary root.
-pub fn storing(old: u8, y: u8) -> Process {
+pub(crate) fn storing(old: u8, y: u8) -> Process {
     let mut q = process(1);
     q.place = Process::STORE_WRITE;
     q.x = 1;
@@ -65,7 +65,7 @@ pub fn storing(old: u8, y: u8) -> Process {
 }
 
 // A mutator at the last step of a mark of y, which it is greying.
-pub fn greying(y: u8) -> Process {
+pub(crate) fn greying(y: u8) -> Process {
     let mut q = process(1);
     q.place = Process::STORE_MARK_Y;
     q.stage = Process::UNLOCK;
@@ -75,7 +75,7 @@ pub fn greying(y: u8) -> Process {
     q
 }
 
-pub fn show(s: State) {
+pub(crate) fn show(s: State) {
     let f = verdict::states::finding(s);
     io::write_all(1, b" ");
     io::print_decimal(1, f.verdict as u64);
@@ -83,7 +83,7 @@ pub fn show(s: State) {
     io::print_decimal(1, f.number as u64);
 }
 
-pub fn say(name: &[u8], s: State) {
+pub(crate) fn say(name: &[u8], s: State) {
     io::write_all(1, name);
     io::write_all(1, b":");
     show(s);

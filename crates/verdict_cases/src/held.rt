@@ -62,7 +62,7 @@ fn not_held() {
     ground::say(b"free cell on a list", ground::with_process(1, busy));
 }
 
-pub fn all() {
+pub(crate) fn all() {
     roots();
     honorary();
     stores();
@@ -81,7 +81,7 @@ fn from_four(f: u8, d: u8) -> State {
     ground::with_memory(after)
 }
 
-pub fn chains() {
+pub(crate) fn chains() {
     // 1 names 2, 2 names 4, 4 names 5, in its first field and in its second
     ground::say(b"chain to a first field", from_four(0, 5));
     ground::say(b"chain to a second field", from_four(1, 5));

@@ -47,7 +47,7 @@ fn line(name: &[u8], in_step: bool, kind: Kind, system: Handshake, mutator: Hand
 
 // "In step: no-op with both phases equal and one of Idle, IdleInit, InitMark, Mark; roots or work with both IdleMarkSweep."
 // On the line 0; a phase further mutator 2 is out; not in step, mutator 1 is out, but for work, whose two lines have the same phases; "A raised flag implies not in step."
-pub fn in_step() {
+pub(crate) fn in_step() {
     noop_in_step();
     line(
         b"in step, roots",
@@ -99,7 +99,7 @@ fn noop_in_step() {
 
 // "Not in step (system, mutator): no-op with (Idle, IdleMarkSweep), (IdleInit, Idle), (InitMark, IdleInit), (Mark, InitMark); roots with (IdleMarkSweep,
 // Mark); work with both IdleMarkSweep." A raised flag is right here.
-pub fn not_in_step() {
+pub(crate) fn not_in_step() {
     noop_not_in_step();
     line(
         b"not in step, roots",
@@ -150,7 +150,7 @@ fn noop_not_in_step() {
 }
 
 // Phases that go together, of a type that does not have them: both mutators are out, and 1 is the least.
-pub fn phases() {
+pub(crate) fn phases() {
     let sweep = part(false, true, Handshake::IdleMarkSweep);
     ground::say(
         b"no-op with both IdleMarkSweep",

@@ -19,7 +19,7 @@ fn flagged(s: State) -> State {
     s.with_process(2, q)
 }
 
-pub fn all() {
+pub(crate) fn all() {
     ground::say(b"table alone", flagged(ground::ground()));
     ground::say(b"black and table", flagged(colours::white_two()));
     ground::say(b"loose and table", flagged(loosened(ground::ground())));
@@ -27,7 +27,7 @@ pub fn all() {
     ground::say(b"all three", flagged(loosened(colours::white_two())));
 }
 
-pub fn malformed() {
+pub(crate) fn malformed() {
     // the root 7 is above N, which is 6: "a .. set .. out of range"; "0 and 4 carry the number 0"
     let mut above = ground::process(1);
     above.roots = 65;
