@@ -1,10 +1,11 @@
 // "Each owns a FIFO buffer of at most 8 pending stores": a store, and a buffer of them, oldest first.
-mod fits;
+mod ranges;
 mod stores;
 
 ghost use mathlib.Core.Path.{_≡_};
 ghost use Prim.Native.Nat.{min};
 ghost use Rattle.buffers.specs.Stores.{noEntry};
+ghost use Rattle.buffers.specs.Fits.{isCellOf};
 ghost use Rattle.buffers.specs.Buffers.{maxStores, emptyBuffer, pendingOf, pushOf, popOf, newerOf, newestOf, storeOrOf};
 
 pub enum Phase {
@@ -57,6 +58,16 @@ pub struct Popped {
 pub enum Newest {
     Nothing,
     Hit(Store),
+}
+
+// c is one of the cells 1 to n.
+pub fn is_cell(n: u8, c: u8) -> bool
+    ensures { λ r. ⌜ r ≡ isCellOf n c ⌝ }
+{
+    if 0 < c {
+        return c <= n;
+    }
+    false
 }
 
 impl Entry {

@@ -11,7 +11,8 @@ use Rattle.buffers.specs.declared.Phase.{Phase}
 use Rattle.buffers.specs.declared.Store.{Store}
 use Rattle.buffers.specs.declared.Store.the-variants as store
 use Rattle.buffers.specs.declared.Spot.the-variants as spot
-use Rattle.buffers.specs.Stores.{spotOf, hitsOf, bitOf, phaseOf}
+use Rattle.buffers.specs.Stores.{spotOf, kindOf, hitsOf, bitOf, phaseOf}
+use Rattle.buffers.proofs.Hits.{hits-own, hits-apart}
 use Rattle.memory.specs.declared.Memory.{Memory}
 use Rattle.memory.proofs.Spots.{Plain, held-sense, held-alloc-sense, held-phase}
 use Rattle.memory.proofs.Effects.{Committed, committed-held}
@@ -40,29 +41,27 @@ phaseAfter (store.AllocSense b) x = x
 phaseAfter (store.Phase h) x = h
 
 -- ---- what is held at the three spots
+-- a store to the spot takes the place of what was held there; one to a spot of another kind leaves it
 at-sense : (v : Store) (b : Bool) {d : Bool} → store.Sense d ≡ pick (hitsOf spot.Sense v) v (store.Sense b) → d ≡ senseAfter v b
-unfolding hitsOf
-at-sense (store.Mark c i) b e = ap bitOf e
-at-sense (store.Field c f i) b e = ap bitOf e
-at-sense (store.Sense i) b e = ap bitOf e
-at-sense (store.AllocSense i) b e = ap bitOf e
-at-sense (store.Phase i) b e = ap bitOf e
+at-sense (store.Mark c i) b e = ap bitOf (rw (hits-apart kindOf spot.Sense (store.Mark c i) (λ k. omega arith)) at e)
+at-sense (store.Field c f i) b e = ap bitOf (rw (hits-apart kindOf spot.Sense (store.Field c f i) (λ k. omega arith)) at e)
+at-sense (store.Sense i) b e = ap bitOf (rw (hits-own (store.Sense i)) at e)
+at-sense (store.AllocSense i) b e = ap bitOf (rw (hits-apart kindOf spot.Sense (store.AllocSense i) (λ k. omega arith)) at e)
+at-sense (store.Phase i) b e = ap bitOf (rw (hits-apart kindOf spot.Sense (store.Phase i) (λ k. omega arith)) at e)
 
 at-alloc : (v : Store) (b : Bool) {d : Bool} → store.AllocSense d ≡ pick (hitsOf spot.AllocSense v) v (store.AllocSense b) → d ≡ allocAfter v b
-unfolding hitsOf
-at-alloc (store.Mark c i) b e = ap bitOf e
-at-alloc (store.Field c f i) b e = ap bitOf e
-at-alloc (store.Sense i) b e = ap bitOf e
-at-alloc (store.AllocSense i) b e = ap bitOf e
-at-alloc (store.Phase i) b e = ap bitOf e
+at-alloc (store.Mark c i) b e = ap bitOf (rw (hits-apart kindOf spot.AllocSense (store.Mark c i) (λ k. omega arith)) at e)
+at-alloc (store.Field c f i) b e = ap bitOf (rw (hits-apart kindOf spot.AllocSense (store.Field c f i) (λ k. omega arith)) at e)
+at-alloc (store.Sense i) b e = ap bitOf (rw (hits-apart kindOf spot.AllocSense (store.Sense i) (λ k. omega arith)) at e)
+at-alloc (store.AllocSense i) b e = ap bitOf (rw (hits-own (store.AllocSense i)) at e)
+at-alloc (store.Phase i) b e = ap bitOf (rw (hits-apart kindOf spot.AllocSense (store.Phase i) (λ k. omega arith)) at e)
 
 at-phase : (v : Store) (b : Phase) {d : Phase} → store.Phase d ≡ pick (hitsOf spot.Phase v) v (store.Phase b) → d ≡ phaseAfter v b
-unfolding hitsOf
-at-phase (store.Mark c i) b e = ap phaseOf e
-at-phase (store.Field c f i) b e = ap phaseOf e
-at-phase (store.Sense i) b e = ap phaseOf e
-at-phase (store.AllocSense i) b e = ap phaseOf e
-at-phase (store.Phase i) b e = ap phaseOf e
+at-phase (store.Mark c i) b e = ap phaseOf (rw (hits-apart kindOf spot.Phase (store.Mark c i) (λ k. omega arith)) at e)
+at-phase (store.Field c f i) b e = ap phaseOf (rw (hits-apart kindOf spot.Phase (store.Field c f i) (λ k. omega arith)) at e)
+at-phase (store.Sense i) b e = ap phaseOf (rw (hits-apart kindOf spot.Phase (store.Sense i) (λ k. omega arith)) at e)
+at-phase (store.AllocSense i) b e = ap phaseOf (rw (hits-apart kindOf spot.Phase (store.AllocSense i) (λ k. omega arith)) at e)
+at-phase (store.Phase i) b e = ap phaseOf (rw (hits-own (store.Phase i)) at e)
 
 -- ---- a commit of p
 module _ {m n : Memory} (w : sound.WellFormed m) (p : ℕ) (k : Committed m p n) where

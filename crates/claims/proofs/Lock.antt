@@ -8,6 +8,7 @@ use Prim.Native.Nat.{ℕ, zero, suc, _+_, _-_}
 use native.Mathlib.Omega.{arith}
 use native.Mathlib.Decide.{ℕ-discrete}
 use lib.Dec.{ltb}
+use Rattle.base.proofs.Picking.{pick-ind}
 use Rattle.cells.proofs.Bools.{not-both}
 use Rattle.memory.specs.declared.Memory.{Memory}
 use Rattle.memory.proofs.Shapes.{Shaped}
@@ -21,7 +22,6 @@ use Rattle.state.specs.States.{processOf}
 use Rattle.state.specs.Openings.{openMemory, openCollector, openMutator, openProcess, openingOf}
 use Rattle.fits.specs.Fits.{HeapFits, WellFormed}
 use Rattle.rows.specs.Rows.{Row}
-use Rattle.rows.proofs.Picking.{pick-ind}
 use Rattle.claims.specs.Lock.{insideAt, Inside, Lock, LockFree}
 use Rattle.claims.proofs.Moves.{insideOf, Outer, Goes, row-goes, others-inside}
 

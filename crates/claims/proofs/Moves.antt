@@ -19,7 +19,7 @@ use Rattle.buffers.specs.Fits.{IsCell}
 use Rattle.memory.specs.declared.Memory.{Memory}
 use Rattle.memory.specs.Memories.{maxCells, maxProcesses, taken}
 use Rattle.memory.specs.Steps.{writeOf, commitOf, lockOf, unlockOf, allocateOf, freeOf}
-use Rattle.memory.proofs.Shapes.{pendingFor}
+use Rattle.memory.specs.Views.{pendingFor}
 use Rattle.memory.proofs.Effects.{Reset, allocate-taken, free-taken}
 use Rattle.sound.specs.WellFormed as sound
 use Rattle.sound.proofs.Shapes.{shaped}

@@ -12,19 +12,23 @@ use native.Mathlib.Omega.{arith}
 use native.Mathlib.Decide.{ℕ-discrete, decLt}
 use lib.Dec.{eqb, leb, ltb}
 use borrow.Author.Tests.{eqb-true}
+use Rattle.base.proofs.Picking.{pick-ind}
 use Rattle.cells.proofs.Bools.{split, not-both}
 use Rattle.buffers.specs.declared.Phase.{Phase}
 use Rattle.buffers.specs.declared.Phase.the-variants as phase
 use Rattle.buffers.specs.declared.Store.{Store}
 use Rattle.buffers.specs.declared.Store.the-variants as store
+use Rattle.buffers.specs.declared.Spot.{Spot}
 use Rattle.buffers.specs.declared.Spot.the-variants as spot
 use Rattle.buffers.specs.declared.Entry.{Entry}
-use Rattle.buffers.specs.Stores.{phaseOf, hitsOf}
+use Rattle.buffers.specs.Stores.{kindOf, hitsOf, phaseOf}
+use Rattle.buffers.proofs.Hits.{hits-apart}
 use Rattle.memory.specs.declared.Memory.{Memory}
 use Rattle.memory.specs.declared.SeenPhase.{SeenPhase}
 use Rattle.memory.specs.Memories.{maxProcesses}
 use Rattle.memory.specs.Looks.{lookPhaseOf}
-use Rattle.memory.proofs.Shapes.{Shaped, pendingFor, pending-is, view-misses}
+use Rattle.memory.specs.Views.{pendingFor}
+use Rattle.memory.proofs.Shapes.{Shaped, pending-is, view-misses}
 use Rattle.memory.proofs.Spots.{held-phase}
 use Rattle.memory.proofs.Sights.{look-phase-taken}
 use Rattle.memory.proofs.Effects.{write-taken, lock-taken, unlock-taken, commit-taken}
@@ -42,7 +46,6 @@ use Rattle.state.specs.States.{noProcess, mutatorsOf, processOf, withProcess, w
 use Rattle.fits.specs.Fits.{HeapFits, WellFormed}
 use Rattle.rows.specs.Offers.{markPlace}
 use Rattle.rows.specs.Rows.{At, seesPhase, Marks, Next, Mark, Branch, Mutator, withList, Row}
-use Rattle.rows.proofs.Picking.{pick-ind}
 use Rattle.kept.specs.Leaves.{Beside}
 use Rattle.kept.proofs.Frames.{named}
 use Rattle.claims.proofs.Processes.{arrived}
@@ -85,20 +88,15 @@ branch-early Branch.roots i = (refl, refl)
 branch-early Branch.work i = (refl, refl)
 
 -- ---- a mutator reads fM and the phase from memory: neither waits in its buffer
-misses-sense : {v : Store} → MarkOrField v → hitsOf spot.Sense v ≡ false
-unfolding hitsOf
-misses-sense MarkOrField.mark = refl
-misses-sense MarkOrField.field = refl
-
-misses-phase : {v : Store} → MarkOrField v → hitsOf spot.Phase v ≡ false
-unfolding hitsOf
-misses-phase MarkOrField.mark = refl
-misses-phase MarkOrField.field = refl
+-- a mark or a field misses every spot of a kind past theirs
+misses : (a : Spot) {v : Store} → kindOf (spot.Field 0 0) < kindOf a → MarkOrField v → hitsOf a v ≡ false
+misses a l (MarkOrField.mark {c} {b}) = hits-apart kindOf a (store.Mark c b) (λ e. omega arith)
+misses a l (MarkOrField.field {c} {f} {v}) = hits-apart kindOf a (store.Field c f v) (λ e. omega arith)
 
 sees-phase : (m : Memory) (p : ℕ) {h : Phase} → MarksAndFields (pendingFor m p) → lookPhaseOf m p ≡ seesPhase h → h ≡ m .phase .phase
 sees-phase m p f e =
     let k = look-phase-taken m p (ap (λ (i : SeenPhase). i .no) e) in
-    let g = view-misses m p spot.Phase (λ x i. misses-phase (f x i)) in
+    let g = view-misses m p spot.Phase (λ x i. misses spot.Phase (omega arith) (f x i)) in
     sym (ap (λ (i : SeenPhase). i .phase) e) ∙ ap (λ (i : SeenPhase). i .phase) k ∙ ap phaseOf (g ∙ held-phase m)
 
 -- ---- a step of a mark
@@ -119,7 +117,7 @@ mark-noted {m} z f d i (Mark.looks e g) v = early (m .fm) (record { sense = rw (
 mark-noted {m} z f d i (Mark.equal e g h) v = early (m .fm) (next-early h)
 mark-noted {m} {p = p} z f d i (Mark.unequal e g) v =
     record {
-      sense = λ _ _. sees-sense m p (view-misses m p spot.Sense (λ x j. misses-sense (f x j))) g;
+      sense = λ _ _. sees-sense m p (view-misses m p spot.Sense (λ x j. misses spot.Sense (omega arith) (f x j))) g;
       left = λ h. let k = site i in absurd (false≢true (rw k at h));
     }
 mark-noted {m} z f d i (Mark.idle e g h) v = early (m .fm) (next-early h)

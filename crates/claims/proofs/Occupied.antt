@@ -2,7 +2,7 @@
 --     row-occupied      a row does to each cell what the choice's event says
 --     run-occupied      and so does a run
 use mathlib.Core.Path.{_≡_, refl, ap, _∙_}
-use mathlib.Core.Bool.{Bool, true, false, _||_}
+use mathlib.Core.Bool.{Bool, _||_}
 use mathlib.Core.List.{List, [], _∷_}
 use mathlib.Core.Logic.{⊎-elim}
 use Prim.Native.Nat.{ℕ, _≤_, _<_}
@@ -11,6 +11,7 @@ use native.Mathlib.Decide.{ℕ-discrete}
 use lib.Dec.{eqb}
 use borrow.Author.Tests.{eq-eqb, ne-eqb}
 use Rattle.base.specs.Pick.{pick}
+use Rattle.base.proofs.Picking.{picked}
 use Rattle.cells.specs.Sets.{maxSet, memberOf, addOf, removeOf}
 use Rattle.cells.proofs.Members.{add-same, add-keeps, in-add, remove-gone, in-remove, remove-keeps}
 use Rattle.cells.proofs.Bools.{same-test}
@@ -19,7 +20,7 @@ use Rattle.buffers.specs.declared.Spot.{Spot}
 use Rattle.memory.specs.declared.Memory.{Memory}
 use Rattle.memory.specs.Memories.{usedOf, asTaken}
 use Rattle.memory.proofs.Shapes.{Shaped}
-use Rattle.memory.proofs.Effects.{fence-taken}
+use Rattle.memory.proofs.Effects.{fence-taken, write-settled, commit-settled, lock-settled, unlock-settled, allocate-used, free-used}
 use Rattle.sound.proofs.Shapes.{shaped}
 use Rattle.state.specs.declared.Process.{Process}
 use Rattle.state.specs.declared.State.{State}
@@ -37,7 +38,6 @@ use Rattle.rows.specs.Rows.{Row}
 use Rattle.rows.specs.Reasons.{mover}
 use Rattle.kept.specs.Deeds.{Does}
 use Rattle.kept.proofs.Deeds.{row-deed}
-use Rattle.kept.proofs.Memories.{write-settled, commit-settled, lock-settled, unlock-settled, allocate-used, free-used}
 use Rattle.engine.specs.Steps.{stepOf}
 use Rattle.engine.proofs.Theorems.{answered, kept}
 use Rattle.claims.specs.Runs.{runOf}
@@ -75,48 +75,44 @@ still-none x Still.locks = refl
 still-none x Still.unlocks = refl
 still-none x Still.apart = refl
 
-either : (b : Bool) {d e : Deed} → Still d → Still e → Still (pick b d e)
-either true h k = h
-either false h k = k
-
 -- ---- the event of an own step is that of its deed
 module _ (c : Choice) (q : Process) where
   top-still : (c .op ≡ 0 → ⊥) → Still (topDeed c)
   unfolding topDeed
-  top-still h = rw (ne-eqb (c .op) 0 h) (either (eqb (c .op) 2) Still.reads (either (eqb (c .op) 3) Still.reads (either (eqb (c .op) 4) Still.fences Still.apart)))
+  top-still h = rw (ne-eqb (c .op) 0 h) (picked Still (eqb (c .op) 2) Still.reads (picked Still (eqb (c .op) 3) Still.reads (picked Still (eqb (c .op) 4) Still.fences Still.apart)))
 
   mark-still : Still (markDeed c q)
   unfolding markDeed
   mark-still =
-      either (eqb (q .stage) lookStage) Still.reads
-      (either (eqb (q .stage) senseStage) Still.reads
-      (either (eqb (q .stage) phaseStage) Still.reads
-      (either (eqb (q .stage) lockStage) Still.locks
-      (either (eqb (q .stage) againStage) Still.reads
-      (either (eqb (q .stage) writeStage) Still.writes
+      picked Still (eqb (q .stage) lookStage) Still.reads
+      (picked Still (eqb (q .stage) senseStage) Still.reads
+      (picked Still (eqb (q .stage) phaseStage) Still.reads
+      (picked Still (eqb (q .stage) lockStage) Still.locks
+      (picked Still (eqb (q .stage) againStage) Still.reads
+      (picked Still (eqb (q .stage) writeStage) Still.writes
       Still.unlocks)))))
 
   row-still : (q .place ≡ row10Free → ⊥) → Still (rowDeed c q)
   unfolding rowDeed
   row-still h =
       rw (ne-eqb (q .place) row10Free h)
-      (either (eqb (q .place) storeWrite) Still.writes
-      (either (eqb (q .place) noopFence || eqb (q .place) rootsFence || eqb (q .place) workFence) Still.fences
-      (either (eqb (q .place) row2Read) Still.reads
-      (either (eqb (q .place) row2Write) Still.writes
-      (either (eqb (q .place) row4Write) Still.writes
-      (either (eqb (q .place) row5Phase) Still.writes
-      (either (eqb (q .place) row5Alloc) Still.writes
-      (either (eqb (q .place) row7Read0) Still.reads
-      (either (eqb (q .place) row7Read1) Still.reads
-      (either (eqb (q .place) row9Write) Still.writes
-      (either (eqb (q .place) row10Look) Still.sweeps
-      (either (eqb (q .place) row11Write) Still.writes
+      (picked Still (eqb (q .place) storeWrite) Still.writes
+      (picked Still (eqb (q .place) noopFence || eqb (q .place) rootsFence || eqb (q .place) workFence) Still.fences
+      (picked Still (eqb (q .place) row2Read) Still.reads
+      (picked Still (eqb (q .place) row2Write) Still.writes
+      (picked Still (eqb (q .place) row4Write) Still.writes
+      (picked Still (eqb (q .place) row5Phase) Still.writes
+      (picked Still (eqb (q .place) row5Alloc) Still.writes
+      (picked Still (eqb (q .place) row7Read0) Still.reads
+      (picked Still (eqb (q .place) row7Read1) Still.reads
+      (picked Still (eqb (q .place) row9Write) Still.writes
+      (picked Still (eqb (q .place) row10Look) Still.sweeps
+      (picked Still (eqb (q .place) row11Write) Still.writes
       Still.apart))))))))))))
 
   deed-still : (q .place ≡ top → ⊥) → (q .place ≡ row10Free → ⊥) → Still (deedOf c q)
   unfolding deedOf
-  deed-still h k = rw (ne-eqb (q .place) top h) (either (markPlace (q .place)) mark-still (either (roundPlace (q .place)) (either (eqb (q .stage) fenceStage) Still.fences Still.apart) (row-still k)))
+  deed-still h k = rw (ne-eqb (q .place) top h) (picked Still (markPlace (q .place)) mark-still (picked Still (roundPlace (q .place)) (picked Still (eqb (q .stage) fenceStage) Still.fences Still.apart) (row-still k)))
 
   at-top : q .place ≡ top → deedOf c q ≡ topDeed c
   unfolding deedOf

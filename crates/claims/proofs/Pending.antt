@@ -15,7 +15,8 @@ use Rattle.buffers.specs.declared.Store.{Store}
 use Rattle.buffers.specs.declared.Store.the-variants as store
 use Rattle.buffers.specs.declared.Entry.{Entry}
 use Rattle.memory.specs.declared.Memory.{Memory}
-use Rattle.memory.proofs.Shapes.{Shaped, pendingFor, pending-is}
+use Rattle.memory.specs.Views.{pendingFor}
+use Rattle.memory.proofs.Shapes.{Shaped, pending-is}
 use Rattle.memory.proofs.Effects.{write-taken, lock-taken, unlock-taken, commit-taken}
 use Rattle.sound.proofs.Shapes.{shaped}
 use Rattle.state.specs.declared.Process.{Process}

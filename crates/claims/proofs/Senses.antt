@@ -17,7 +17,8 @@ use Rattle.buffers.specs.declared.Phase.{Phase}
 use Rattle.buffers.specs.declared.Phase.the-variants as phase
 use Rattle.buffers.specs.declared.Store.the-variants as store
 use Rattle.buffers.specs.declared.Entry.{Entry}
-use Rattle.memory.proofs.Shapes.{pendingFor, pending-is}
+use Rattle.memory.specs.Views.{pendingFor}
+use Rattle.memory.proofs.Shapes.{pending-is}
 use Rattle.state.specs.declared.Handshake.{Handshake}
 use Rattle.state.specs.declared.Handshake.the-variants as hand
 use Rattle.state.specs.declared.Kind.{Kind}

@@ -24,10 +24,11 @@ use Rattle.buffers.specs.Stores.{bitOf}
 use Rattle.memory.specs.declared.Memory.{Memory}
 use Rattle.memory.specs.declared.SeenBit.{SeenBit}
 use Rattle.memory.specs.declared.Standing.{Standing}
-use Rattle.memory.specs.Steps.{writeOf, commitOf}
+use Rattle.memory.specs.Steps.{writeOf, commitOf, unlockOf}
 use Rattle.memory.specs.Memories.{taken, heldOf}
 use Rattle.memory.specs.Looks.{lookSenseOf}
-use Rattle.memory.proofs.Shapes.{Shaped, pendingFor, pending-is, view-empty, viewOf}
+use Rattle.memory.specs.Views.{pendingFor, viewOf}
+use Rattle.memory.proofs.Shapes.{Shaped, pending-is, view-empty}
 use Rattle.memory.proofs.Spots.{Alike, held-sense}
 use Rattle.memory.proofs.Sights.{look-sense-taken}
 use Rattle.memory.proofs.Effects.{Committed, write-taken, fence-taken, lock-taken, unlock-taken, commit-taken}
@@ -224,15 +225,23 @@ staged q m e v = rw e at v
 renewed : {x n : Bool} {z : Stretch} {w : Moment} {l : List Entry} {b d : Bool} {h : Phase} → x ≡ n → Wrote n z w l b d h → Wrote x z w l b d h
 renewed e v = rw e v
 
+-- "The collector's read of fM here renews its one noted fM."
+mark-renews : (m : Memory) (q : Process) → Scans (q .place) → q .stage ≡ senseStage → {b : Bool} → lookSenseOf m 0 ≡ seesBit b → Known q m → Wrote b Stretch.marks Moment.goes (pendingFor m 0) (m .fm) (m .fa) (m .phase .phase)
+mark-renews m q s e g v =
+    let k = mark-sense (scan-from s senseStage refl (staged q m e v)) in
+    renewed (sees-sense m 0 (view-empty m 0 spot.Sense (k .0)) g) (k .1)
+
+-- the unlock of a winner or of a loser: it is taken only with nothing pending
+mark-unlocks : (m n : Memory) (q : Process) → Shaped m → Scans (q .place) → q .stage ≡ unlockStage → unlockOf m 0 ≡ taken n → Known q m → Wrote (q .sense) Stretch.marks Moment.goes (pendingFor n 0) (n .fm) (n .fa) (n .phase .phase)
+mark-unlocks m n q z s e g v =
+    let k = unlock-taken 0 z g in
+    keep (alike-keeps (k .after .pending 0) (k .after .alike)) (quiet-at (k .empty) (scan-unlocks s (staged q m e v)))
+
 mark-known : {m n : Memory} {r : ℕ} {q t : Process} → Shaped m → Scans (q .place) → Mark m 0 r q n t → Known q m → Known t n
 unfolding unnoted
 mark-known {m} {q = q} z s (Mark.looks e g) v = scan-to s senseStage refl (scan-from s lookStage refl (staged q m e v))
-mark-known {m} {q = q} z s (Mark.equal e g h) v =
-    let k = mark-sense (scan-from s senseStage refl (staged q m e v)) in
-    next-known (s .place) h (renewed (sees-sense m 0 (view-empty m 0 spot.Sense (k .0)) g) (k .1))
-mark-known {m} {q = q} z s (Mark.unequal e g) v =
-    let k = mark-sense (scan-from s senseStage refl (staged q m e v)) in
-    scan-to s phaseStage refl (renewed (sees-sense m 0 (view-empty m 0 spot.Sense (k .0)) g) (k .1))
+mark-known {m} {q = q} z s (Mark.equal e g h) v = next-known (s .place) h (mark-renews m q s e g v)
+mark-known {m} {q = q} z s (Mark.unequal e g) v = scan-to s phaseStage refl (mark-renews m q s e g v)
 mark-known {m} {q = q} z s (Mark.idle e g h) v = next-known (s .place) h (scan-from s phaseStage refl (staged q m e v))
 mark-known {m} {q = q} z s (Mark.busy e g h) v = scan-to s lockStage refl (scan-from s phaseStage refl (staged q m e v))
 mark-known {m} {q = q} z s (Mark.locks e g) v =
@@ -241,12 +250,8 @@ mark-known {m} {q = q} z s (Mark.locks e g) v =
 mark-known {m} {q = q} z s (Mark.agrees e g) v = scan-to s writeStage refl (scan-from s againStage refl (staged q m e v))
 mark-known {m} {q = q} z s (Mark.differs e g) v = scan-unlock s (leave-marks (scan-from s againStage refl (staged q m e v)))
 mark-known {m} {r = r} {q = q} z s (Mark.writes e g) v = scan-unlock s (add (store.Mark r (q .sense)) z g (write-mark r (scan-from s writeStage refl (staged q m e v))))
-mark-known {m} {q = q} z s (Mark.wins e g h i) v =
-    let k = unlock-taken 0 z g in
-    next-known (s .place) i (keep (alike-keeps (k .after .pending 0) (k .after .alike)) (quiet-at (k .empty) (scan-unlocks s (staged q m e v))))
-mark-known {m} {q = q} z s (Mark.loses e g h i) v =
-    let k = unlock-taken 0 z g in
-    next-known (s .place) i (keep (alike-keeps (k .after .pending 0) (k .after .alike)) (quiet-at (k .empty) (scan-unlocks s (staged q m e v))))
+mark-known {m} {n} {q = q} z s (Mark.wins e g h i) v = next-known (s .place) i (mark-unlocks m n q z s e g v)
+mark-known {m} {n} {q = q} z s (Mark.loses e g h i) v = next-known (s .place) i (mark-unlocks m n q z s e g v)
 
 -- the collector is o after it, and memory is that of x
 data Turned : State → Type 0 where

@@ -1,6 +1,6 @@
 -- "Collector": the turn of the process that the choice c names, which is q now, at each row of the collector's table: what it becomes, and the one act besides.
 -- Collectors.antt tells what these make of the whole state. Assumes nothing.
-use mathlib.Core.Bool.{Bool, not}
+use mathlib.Core.Bool.{Bool, true, not, _||_}
 use mathlib.Core.Path.{_≡_}
 use Prim.Native.Nat.{ℕ}
 use lib.Dec.{eqb}
@@ -11,7 +11,6 @@ use Rattle.buffers.specs.declared.Store.{Store}
 use Rattle.buffers.specs.declared.Store.the-variants as store
 use Rattle.memory.specs.declared.Memory.{Memory}
 use Rattle.memory.specs.Looks.{lookFieldOf, lookSenseOf, lookSweptOf}
-use Rattle.state.specs.declared.Kind.{Kind}
 use Rattle.state.specs.declared.Kind.the-variants as kind
 use Rattle.state.specs.declared.Process.{Process}
 use Rattle.state.specs.declared.Hands.{Hands}
@@ -25,6 +24,7 @@ use Rattle.state.specs.Choices.{isBlank, isNaming}
 use Rattle.state.specs.Turns.{stopping, going, doing}
 use Rattle.state.specs.Settles.{settledOf}
 use Rattle.marking.specs.Turns.{markTurn, siteTurn}
+use Rattle.rounds.specs.declared.Round.{Round}
 use Rattle.rounds.specs.Turns.{roundTurn}
 use Rattle.collector.specs.Collectors.{taking, scanning, afterMark, dropping, sweeping, collectorOf}
 
@@ -73,6 +73,10 @@ readSecondTurn m c q =
     pick (eqb (l .no) 0) (going (scanning (q .x) (l .value) row7Mark1 row7Drop q)) (stopping (l .no) q))
     (stopping notOffered q)
 
+-- the places of its two marks, and the turn there
+unfoldable pub isMarking : ℕ → Bool
+isMarking k = pick (eqb k row7Mark0) true (eqb k row7Mark1)
+
 unfoldable pub markSiteTurn : Memory → Choice → Process → Turn
 markSiteTurn m c q = pick (isBlank c) (siteTurn afterMark (markTurn m (c .process) q)) (stopping notOffered q)
 
@@ -104,9 +108,18 @@ freeTurn c q = pick (isBlank c) (doing (act.Frees (q .x)) (sweeping q)) (stoppin
 unfoldable pub idleWriteTurn : Choice → Process → Turn
 idleWriteTurn c q = writeTurn c (store.Phase phase.Idle) q (at row1Round fenceStage q)
 
--- ---- a round of the table: its type, and the place and stage that follow it
-abbrev pub rowRoundTurn : Memory → Bool → Choice → Process → Kind → ℕ → ℕ → Turn
-rowRoundTurn m up c q k place stage = roundTurn m up c q (record { kind = k; place = place; stage = stage })
+-- ---- rows 1, 3, 4, 5, 6 and 8: the places of a round; and the round at such a place: its type, and the place and stage that follow it
+abbrev pub isRound : ℕ → Bool
+isRound k = eqb k row1Round || eqb k row3Round || eqb k row4Round || eqb k row5Round || eqb k row6Round || eqb k row8Round
+
+unfoldable pub rowRound : ℕ → Round
+rowRound k =
+    pick (eqb k row1Round) (record { kind = kind.Noop; place = row2Read; stage = noStage })
+    (pick (eqb k row3Round) (record { kind = kind.Noop; place = row4Write; stage = noStage })
+    (pick (eqb k row4Round) (record { kind = kind.Noop; place = row5Phase; stage = noStage })
+    (pick (eqb k row5Round) (record { kind = kind.Noop; place = row6Round; stage = fenceStage })
+    (pick (eqb k row6Round) (record { kind = kind.Roots; place = row6Take; stage = noStage })
+    (record { kind = kind.Work; place = row8Take; stage = noStage })))))
 
 -- ---- the turn at the collector's place, where the flag of the mutator that x names is up or not; a place that is none of its own is malformed
 unfoldable pub writesTurn : Memory → Choice → Process → Turn
@@ -118,30 +131,26 @@ writesTurn m c q =
     (pick (eqb (q .place) row5Alloc) (allocWriteTurn c q)
     (stopping malformed q)))))
 
-unfoldable pub scanTurn : Memory → Hands → Choice → Process → Turn
-scanTurn m h c q =
+unfoldable pub scanTurn : Memory → Choice → Process → Turn
+scanTurn m c q =
     pick (eqb (q .place) row7Read0) (readFirstTurn m c q)
-    (pick (eqb (q .place) row7Mark0) (markSiteTurn m c q)
     (pick (eqb (q .place) row7Read1) (readSecondTurn m c q)
-    (pick (eqb (q .place) row7Mark1) (markSiteTurn m c q)
     (pick (eqb (q .place) row7Drop) (dropTurn c q)
-    (pick (eqb (q .place) row8Take) (takeTurn h c q)
     (pick (eqb (q .place) row9Write) (sweepWriteTurn m c q)
     (pick (eqb (q .place) row10Look) (sweepLookTurn m c q)
     (pick (eqb (q .place) row10Free) (freeTurn c q)
     (pick (eqb (q .place) row11Write) (idleWriteTurn c q)
-    (writesTurn m c q))))))))))
+    (writesTurn m c q)))))))
+
+-- at a place of no mark
+unfoldable pub rowTurn : Memory → Hands → Bool → Choice → Process → Turn
+rowTurn m h up c q =
+    pick (isRound (q .place)) (roundTurn m up c q (rowRound (q .place)))
+    (pick (eqb (q .place) row6Take || eqb (q .place) row8Take) (takeTurn h c q)
+    (scanTurn m c q))
 
 unfoldable pub collectorTurn : Memory → Hands → Bool → Choice → Process → Turn
-collectorTurn m h up c q =
-    pick (eqb (q .place) row1Round) (rowRoundTurn m up c q kind.Noop row2Read noStage)
-    (pick (eqb (q .place) row3Round) (rowRoundTurn m up c q kind.Noop row4Write noStage)
-    (pick (eqb (q .place) row4Round) (rowRoundTurn m up c q kind.Noop row5Phase noStage)
-    (pick (eqb (q .place) row5Round) (rowRoundTurn m up c q kind.Noop row6Round fenceStage)
-    (pick (eqb (q .place) row6Round) (rowRoundTurn m up c q kind.Roots row6Take noStage)
-    (pick (eqb (q .place) row6Take) (takeTurn h c q)
-    (pick (eqb (q .place) row8Round) (rowRoundTurn m up c q kind.Work row8Take noStage)
-    (scanTurn m h c q)))))))
+collectorTurn m h up c q = pick (isMarking (q .place)) (markSiteTurn m c q) (rowTurn m h up c q)
 
 -- ---- turn and step agree
 abbrev pub CollectorSettles : Type 0

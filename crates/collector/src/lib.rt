@@ -1,4 +1,4 @@
-// "Collector": rows 1 to 11 of its table, one small step each; the rounds are of crate `rounds`, the marks of crate `marking`.
+// "Collector": rows 1 to 11 of its table, one small step each; the rounds are of crate `rounds`. Crate `engine` makes the steps of row 7's two marks.
 // Each is the turn of the process that the choice c names, which is q now; a refusal returns the process as it came.
 use buffers::Phase;
 use buffers::Store;
@@ -13,7 +13,7 @@ use state::turns::Act;
 use state::turns::Turn;
 ghost use mathlib.Core.Path.{_≡_};
 ghost use Rattle.collector.specs.Collectors.{taking, scanning, afterMark, dropping, sweeping};
-ghost use Rattle.collector.specs.Turns.{writeTurn, senseReadTurn, senseWriteTurn, initWriteTurn, markWriteTurn, allocWriteTurn, takeTurn, readFirstTurn, readSecondTurn, markSiteTurn, dropTurn, sweepWriteTurn, sweepLookTurn, freeTurn, idleWriteTurn, rowRoundTurn, writesTurn, scanTurn, collectorTurn};
+ghost use Rattle.collector.specs.Turns.{writeTurn, senseReadTurn, senseWriteTurn, initWriteTurn, markWriteTurn, allocWriteTurn, takeTurn, readFirstTurn, readSecondTurn, isMarking, dropTurn, sweepWriteTurn, sweepLookTurn, freeTurn, idleWriteTurn, rowRound, writesTurn, scanTurn, rowTurn};
 
 // Row 2: "read fM"
 fn sense_read(m: Memory, c: Choice, mut q: Process) -> Turn
@@ -150,8 +150,18 @@ fn read_second(m: Memory, c: Choice, q: Process) -> Turn
     Turn::stops(l.no, q)
 }
 
+// Row 7: "mark it", at these two places. Crate `engine` makes a mark's steps, for the collector and the mutators by one call: what has one call is compiled into its caller.
+pub fn is_marking(place: u8) -> bool
+    ensures { λ r. ⌜ r ≡ isMarking place ⌝ }
+{
+    if place == Process::ROW7_MARK0 {
+        return true;
+    }
+    place == Process::ROW7_MARK1
+}
+
 // Where the collector goes when a mark of row 7 is over.
-fn after_mark(mut q: Process) -> Process
+pub fn after_mark(mut q: Process) -> Process
     ensures { λ r. ⌜ r ≡ afterMark q ⌝ }
 {
     if q.place == Process::ROW7_MARK0 {
@@ -160,31 +170,6 @@ fn after_mark(mut q: Process) -> Process
     }
     q.place = Process::ROW7_DROP;
     q
-}
-
-// Row 7: "mark it"
-fn mark(m: Memory, c: Choice, q: Process) -> Turn
-    ensures { λ r. ⌜ r ≡ markSiteTurn m c q ⌝ }
-{
-    if !c.blank() {
-        return Turn::stops(Answer::NOT_OFFERED, q);
-    }
-    let k = marking::step(m, c.process, q);
-    let process = k.process;
-    let act = k.act;
-    if k.over {
-        let next = after_mark(process);
-        return Turn {
-            process: next,
-            act,
-            no: k.no,
-        };
-    }
-    Turn {
-        process,
-        act,
-        no: k.no,
-    }
 }
 
 // x is off the list: "until empty", then row 8.
@@ -278,14 +263,45 @@ fn idle_write(c: Choice, q: Process) -> Turn
     write(c, Store::Phase(Phase::Idle), q, next)
 }
 
-// A step of the round with this type, and the place and stage that follow it.
-fn round(m: Memory, up: bool, c: Choice, q: Process, kind: Kind, place: u8, stage: u8) -> Turn
-    ensures { λ r. ⌜ r ≡ rowRoundTurn m up c q kind place stage ⌝ }
+// The round of rows 1, 3, 4, 5, 6 and 8, by place: its type, and the place and stage that follow it. `step` asks at these places only, so what is left is row 8.
+fn row_round(place: u8) -> Round
+    ensures { λ r. ⌜ r ≡ rowRound place ⌝ }
 {
-    rounds::step(m, up, c, q, Round { kind, place, stage })
+    match place {
+        Process::ROW1_ROUND => Round {
+            kind: Kind::Noop,
+            place: Process::ROW2_READ,
+            stage: Process::NO_STAGE,
+        },
+        Process::ROW3_ROUND => Round {
+            kind: Kind::Noop,
+            place: Process::ROW4_WRITE,
+            stage: Process::NO_STAGE,
+        },
+        Process::ROW4_ROUND => Round {
+            kind: Kind::Noop,
+            place: Process::ROW5_PHASE,
+            stage: Process::NO_STAGE,
+        },
+        Process::ROW5_ROUND => Round {
+            kind: Kind::Noop,
+            place: Process::ROW6_ROUND,
+            stage: Process::FENCE,
+        },
+        Process::ROW6_ROUND => Round {
+            kind: Kind::Roots,
+            place: Process::ROW6_TAKE,
+            stage: Process::NO_STAGE,
+        },
+        _ => Round {
+            kind: Kind::Work,
+            place: Process::ROW8_TAKE,
+            stage: Process::NO_STAGE,
+        },
+    }
 }
 
-// Rows 2, 4 and 5: the reads and writes between the no-op rounds. `step` and `scan` have taken the other places: a number left is none of the collector's, and malformed.
+// Rows 2, 4 and 5: the reads and writes between the no-op rounds. `step` and `scan` have taken the other places: a number left is a mark of row 7, where `step` is not asked, or none of the collector's, and malformed.
 fn writes(m: Memory, c: Choice, q: Process) -> Turn
     ensures { λ r. ⌜ r ≡ writesTurn m c q ⌝ }
 {
@@ -303,18 +319,15 @@ fn writes(m: Memory, c: Choice, q: Process) -> Turn
     }
 }
 
-// Rows 7 to 11, but for the round of row 8.
-fn scan(m: Memory, h: Hands, c: Choice, q: Process) -> Turn
-    ensures { λ r. ⌜ r ≡ scanTurn m h c q ⌝ }
+// Rows 7 (but for its marks), 9, 10 and 11; rows 2, 4 and 5 below.
+fn scan(m: Memory, c: Choice, q: Process) -> Turn
+    ensures { λ r. ⌜ r ≡ scanTurn m c q ⌝ }
 {
     let place = q.place;
     match place {
         Process::ROW7_READ0 => read_first(m, c, q),
-        Process::ROW7_MARK0 => mark(m, c, q),
         Process::ROW7_READ1 => read_second(m, c, q),
-        Process::ROW7_MARK1 => mark(m, c, q),
         Process::ROW7_DROP => drop(c, q),
-        Process::ROW8_TAKE => take(h, c, q),
         Process::ROW9_WRITE => sweep_write(m, c, q),
         Process::ROW10_LOOK => sweep_look(m, c, q),
         Process::ROW10_FREE => free(c, q),
@@ -323,59 +336,20 @@ fn scan(m: Memory, h: Hands, c: Choice, q: Process) -> Turn
     }
 }
 
-// The step at the collector's place: the six rounds and row 6's take here, the other rows below; `up` is the flag of the mutator that x names.
+// The step at the collector's place, where that is no mark: the six rounds and the two takes here, the other rows below; `up` is the flag of the mutator that x names.
+// Rounds and takes are an arm each: what has one call is compiled into its caller, and memory is not copied for it.
 pub fn step(m: Memory, h: Hands, up: bool, c: Choice, q: Process) -> Turn
-    ensures { λ r. ⌜ r ≡ collectorTurn m h up c q ⌝ }
+    ensures { λ r. ⌜ r ≡ rowTurn m h up c q ⌝ }
 {
     let place = q.place;
     match place {
-        Process::ROW1_ROUND => round(
-            m,
-            up,
-            c,
-            q,
-            Kind::Noop,
-            Process::ROW2_READ,
-            Process::NO_STAGE,
-        ),
-        Process::ROW3_ROUND => round(
-            m,
-            up,
-            c,
-            q,
-            Kind::Noop,
-            Process::ROW4_WRITE,
-            Process::NO_STAGE,
-        ),
-        Process::ROW4_ROUND => round(
-            m,
-            up,
-            c,
-            q,
-            Kind::Noop,
-            Process::ROW5_PHASE,
-            Process::NO_STAGE,
-        ),
-        Process::ROW5_ROUND => round(m, up, c, q, Kind::Noop, Process::ROW6_ROUND, Process::FENCE),
-        Process::ROW6_ROUND => round(
-            m,
-            up,
-            c,
-            q,
-            Kind::Roots,
-            Process::ROW6_TAKE,
-            Process::NO_STAGE,
-        ),
-        Process::ROW6_TAKE => take(h, c, q),
-        Process::ROW8_ROUND => round(
-            m,
-            up,
-            c,
-            q,
-            Kind::Work,
-            Process::ROW8_TAKE,
-            Process::NO_STAGE,
-        ),
-        _ => scan(m, h, c, q),
+        Process::ROW1_ROUND
+        | Process::ROW3_ROUND
+        | Process::ROW4_ROUND
+        | Process::ROW5_ROUND
+        | Process::ROW6_ROUND
+        | Process::ROW8_ROUND => rounds::step(m, up, c, q, row_round(place)),
+        Process::ROW6_TAKE | Process::ROW8_TAKE => take(h, c, q),
+        _ => scan(m, c, q),
     }
 }

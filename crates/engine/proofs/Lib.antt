@@ -1,4 +1,5 @@
 pub mod Turns
+pub mod Owns
 pub mod Located
 pub mod CommitView
 pub mod Theorems

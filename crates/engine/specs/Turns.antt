@@ -8,7 +8,6 @@ use Rattle.memory.specs.declared.Memory.{Memory}
 use Rattle.memory.specs.declared.Done.{Done}
 use Rattle.memory.specs.Memories.{maxMutators, maxProcesses, taken}
 use Rattle.memory.specs.Steps.{writeOf, commitOf, lockOf, unlockOf, allocateOf, freeOf}
-use Rattle.state.specs.declared.Kind.{Kind}
 use Rattle.state.specs.declared.Process.{Process}
 use Rattle.state.specs.declared.Hands.{Hands}
 use Rattle.state.specs.declared.State.{State}
@@ -22,7 +21,12 @@ use Rattle.state.specs.Choices.{isBlank}
 use Rattle.state.specs.Turns.{stopping, doing}
 use Rattle.state.specs.Handshakes.{allOut, typed, raisedOf}
 use Rattle.state.specs.Settles.{listed, answeredOf, settledOf}
-use Rattle.mutator.specs.Turns.{mutatorTurn}
+use Rattle.marking.specs.Turns.{markTurn, siteTurn}
+use Rattle.mutator.specs.Mutators as mutators
+use Rattle.mutator.specs.Turns as mutator
+use Rattle.mutator.specs.Turns.{isMark, namedRoot, mutatorTurn}
+use Rattle.collector.specs.Collectors as collectors
+use Rattle.collector.specs.Turns as collector
 use Rattle.collector.specs.Turns.{collectorTurn}
 use Rattle.engine.specs.Steps.{innerOf}
 
@@ -30,6 +34,23 @@ use Rattle.engine.specs.Steps.{innerOf}
 -- "A commit applies one's oldest store, unblocked."
 unfoldable pub commitTurn : Choice → Process → Turn
 commitTurn c q = pick (isBlank c) (doing act.Commits q) (stopping notOffered q)
+
+-- a step of a mark, at the places of either program: process p marks at place k; what its step offers; the process with the root that the choice names;
+-- where it goes when the mark is over
+unfoldable pub isMarkingOf : ℕ → ℕ → Bool
+isMarkingOf p k = pick (eqb p 0) (collector.isMarking k) (mutator.isMarking k)
+
+unfoldable pub isMarkOf : Choice → Process → Bool
+isMarkOf c q = pick (eqb (c .process) 0) (isBlank c) (isMark c q)
+
+unfoldable pub namedOf : Choice → Process → Process
+namedOf c q = pick (eqb (c .process) 0) q (namedRoot c q)
+
+unfoldable pub afterMarkOf : ℕ → Process → Process
+afterMarkOf p q = pick (eqb p 0) (collectors.afterMark q) (mutators.afterMark q)
+
+unfoldable pub markingTurn : Memory → Choice → Process → Turn
+markingTurn m c q = pick (isMarkOf c q) (siteTurn (afterMarkOf (c .process)) (markTurn m (c .process) (namedOf c q))) (stopping notOffered q)
 
 -- an own step: the collector's program, or a mutator's
 unfoldable pub ownTurn : Memory → Hands → Bool → Choice → Process → Turn
@@ -65,13 +86,20 @@ doneOf m p (act.Lists w) = taken m
 doneOf m p (act.Types k) = taken m
 doneOf m p (act.Raises x) = taken m
 
--- what it makes of the handshakes
-unfoldable pub listedOf : State → ℕ → State
-listedOf s w = withHands s (listed (s .hands) w)
+-- the system's part after it
+abbrev pub handedOf : Hands → Act → Hands
+handedOf h act.Nothing = h
+handedOf h (act.Writes v) = h
+handedOf h act.Commits = h
+handedOf h act.Locks = h
+handedOf h act.Unlocks = h
+handedOf h (act.Allocates x) = h
+handedOf h (act.Frees x) = h
+handedOf h (act.Lists w) = listed h w
+handedOf h (act.Types k) = typed h k
+handedOf h (act.Raises x) = h
 
-unfoldable pub typedOf : State → Kind → State
-typedOf s k = allOut (withHands s (typed (s .hands) k))
-
+-- the mutators' parts after it
 abbrev pub shakenOf : State → Act → State
 shakenOf s act.Nothing = s
 shakenOf s (act.Writes v) = s
@@ -80,47 +108,70 @@ shakenOf s act.Locks = s
 shakenOf s act.Unlocks = s
 shakenOf s (act.Allocates x) = s
 shakenOf s (act.Frees x) = s
-shakenOf s (act.Lists w) = listedOf s w
-shakenOf s (act.Types k) = typedOf s k
+shakenOf s (act.Lists w) = s
+shakenOf s (act.Types k) = allOut s
 shakenOf s (act.Raises x) = raisedOf s x
 
--- ---- how far a turn reaches: to its process alone, to memory too, or to the whole state
-abbrev pub alone : ℕ
-alone = 0
+-- the mutator whose flag goes up; 0 for none
+abbrev pub raisesOf : Act → ℕ
+raisesOf act.Nothing = 0
+raisesOf (act.Writes v) = 0
+raisesOf act.Commits = 0
+raisesOf act.Locks = 0
+raisesOf act.Unlocks = 0
+raisesOf (act.Allocates x) = 0
+raisesOf (act.Frees x) = 0
+raisesOf (act.Lists w) = 0
+raisesOf (act.Types k) = 0
+raisesOf (act.Raises x) = x
+
+-- ---- how far a turn reaches, besides its own process: to the system's list, to memory, to a mutator's flag, or to the whole state
+abbrev pub toList : ℕ
+toList = 0
 
 abbrev pub toMemory : ℕ
 toMemory = 1
 
+abbrev pub toFlag : ℕ
+toFlag = 2
+
 abbrev pub toWhole : ℕ
-toWhole = 2
+toWhole = 3
+
+-- a process that no state has a place for counts as the whole
+unfoldable pub toPlace : ℕ → ℕ → ℕ
+toPlace p n = pick (ltb maxMutators p) toWhole n
 
 abbrev pub reachOf : Act → ℕ
-reachOf act.Nothing = alone
+reachOf act.Nothing = toList
 reachOf (act.Writes v) = toMemory
 reachOf act.Commits = toMemory
 reachOf act.Locks = toMemory
 reachOf act.Unlocks = toMemory
 reachOf (act.Allocates x) = toMemory
 reachOf (act.Frees x) = toMemory
-reachOf (act.Lists w) = toWhole
+reachOf (act.Lists w) = toList
 reachOf (act.Types k) = toWhole
-reachOf (act.Raises x) = toWhole
+reachOf (act.Raises x) = toPlace x toFlag
 
--- a refusal, and a process that no state has a place for, count as the whole
+-- so does a refusal
 unfoldable pub wayOf : ℕ → Turn → ℕ
-wayOf p t = pick (eqb (t .no) 0) (pick (ltb maxMutators p) toWhole (reachOf (t .act))) toWhole
+wayOf p t = pick (eqb (t .no) 0) (toPlace p (reachOf (t .act))) toWhole
 
 -- such a turn is taken
-abbrev pub AloneSettles : Type 0
-AloneSettles = (s : State) (p : ℕ) (t : Turn) → wayOf p t ≡ alone → settledOf s p t ≡ goesOf s p (t .process)
+abbrev pub ListSettles : Type 0
+ListSettles = (s : State) (p : ℕ) (t : Turn) → wayOf p t ≡ toList → settledOf s p t ≡ goesOf (withHands s (handedOf (s .hands) (t .act))) p (t .process)
+
+abbrev pub FlagSettles : Type 0
+FlagSettles = (s : State) (p : ℕ) (t : Turn) → wayOf p t ≡ toFlag → settledOf s p t ≡ goesOf (raisedOf s (raisesOf (t .act))) p (t .process)
 
 -- such a turn is as memory answers
 abbrev pub MemorySettles : Type 0
 MemorySettles = (s : State) (p : ℕ) (t : Turn) → wayOf p t ≡ toMemory → settledOf s p t ≡ answeredOf s p (t .process) (doneOf (s .memory) p (t .act))
 
--- and its process has its place in the state
+-- and its process, and a mutator that it raises, have their places in the state
 abbrev pub SmallWay : Type 0
-SmallWay = (p : ℕ) (t : Turn) → (wayOf p t ≡ toWhole → ⊥) → p < maxProcesses
+SmallWay = (p : ℕ) (t : Turn) → (wayOf p t ≡ toWhole → ⊥) → (p < maxProcesses) × (raisesOf (t .act) < maxProcesses)
 
 -- ---- a process read where it stands; past the last is nobody
 unfoldable pub seatOf : ℕ → ℕ

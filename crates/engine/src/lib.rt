@@ -1,4 +1,5 @@
 // One record's step: the checks in number order, and the dispatch over kind, process, place and stage.
+mod marks;
 pub mod settles;
 
 use memory::Memory;
@@ -23,10 +24,13 @@ fn commit(c: Choice, q: Process) -> Turn
     Turn::does(Act::Commits, q)
 }
 
-// An own step of the process, by its program.
+// An own step of the process: of a mark, or of its program.
 fn own(m: Memory, h: Hands, up: bool, c: Choice, q: Process) -> Turn
     ensures { λ r. ⌜ r ≡ ownTurn m h up c q ⌝ }
 {
+    if marks::is_marking(c.process, q.place) {
+        return marks::mark(m, c, q);
+    }
     if c.process == 0 {
         return collector::step(m, h, up, c, q);
     }

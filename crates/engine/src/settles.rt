@@ -5,21 +5,22 @@ use memory::Memory;
 use state::Answer;
 use state::Choice;
 use state::Hands;
-use state::Kind;
 use state::Process;
 use state::State;
 use state::turns::Act;
 use state::turns::Turn;
 ghost use mathlib.Core.Path.{_≡_};
-ghost use Rattle.state.specs.Settles.{settledOf};
-ghost use Rattle.engine.specs.Turns.{doneOf, typedOf, listedOf, shakenOf, reachOf, wayOf, seatOf, seatedOf, turnedOf};
+ghost use Rattle.state.specs.Settles.{listed, settledOf};
+ghost use Rattle.engine.specs.Turns.{doneOf, handedOf, shakenOf, raisesOf, toPlace, reachOf, wayOf, seatOf, seatedOf, turnedOf};
 
-// How far a turn reaches: to its own process alone, to memory too, or to the whole state.
-pub const ALONE: u8 = 0;
+// How far a turn reaches, besides its own process: to the system's list, to memory, to a mutator's flag, or to the whole state.
+pub const LIST: u8 = 0;
 
 pub const MEMORY: u8 = 1;
 
-pub const WHOLE: u8 = 2;
+pub const FLAG: u8 = 2;
+
+pub const WHOLE: u8 = 3;
 
 // Memory's answer to the act of process p; an act that is not memory's leaves it as it is.
 pub fn acted(m: Memory, p: u8, act: Act) -> Done
@@ -51,33 +52,38 @@ pub fn acted(m: Memory, p: u8, act: Act) -> Done
     }
 }
 
-// The system's work list becomes w.
-fn listed(mut s: State, w: u64) -> State
-    ensures { λ r. ⌜ r ≡ listedOf s w ⌝ }
+// The system's part with another work list.
+fn listed(h: Hands, w: u64) -> Hands
+    ensures { λ r. ⌜ r ≡ listed h w ⌝ }
 {
-    let h = s.hands;
     let kind = h.kind;
     let phase = h.phase;
-    let hands = Hands {
+    Hands {
         kind,
         phase,
         work: w,
-    };
-    s.hands = hands;
-    s
+    }
 }
 
-// "set type (all in-step bits off; ..)"
-fn typed(mut s: State, kind: Kind) -> State
-    ensures { λ r. ⌜ r ≡ typedOf s kind ⌝ }
+// The system's part after the act.
+pub fn handed(h: Hands, act: Act) -> Hands
+    ensures { λ r. ⌜ r ≡ handedOf h act ⌝ }
 {
-    let h = s.hands;
-    let hands = rounds::typed(h, kind);
-    s.hands = hands;
-    rounds::all_out(s)
+    match act {
+        Act::Nothing => h,
+        Act::Writes(store) => h,
+        Act::Commits => h,
+        Act::Locks => h,
+        Act::Unlocks => h,
+        Act::Allocates(x) => h,
+        Act::Frees(x) => h,
+        Act::Lists(w) => listed(h, w),
+        Act::Types(kind) => rounds::typed(h, kind),
+        Act::Raises(x) => h,
+    }
 }
 
-// What the act makes of the system's part and of the mutators' parts in the handshakes.
+// What the act makes of the mutators' parts in the handshakes: "all in-step bits off", or a flag up.
 fn shaken(s: State, act: Act) -> State
     ensures { λ r. ⌜ r ≡ shakenOf s act ⌝ }
 {
@@ -89,9 +95,27 @@ fn shaken(s: State, act: Act) -> State
         Act::Unlocks => s,
         Act::Allocates(x) => s,
         Act::Frees(x) => s,
-        Act::Lists(w) => listed(s, w),
-        Act::Types(kind) => typed(s, kind),
+        Act::Lists(w) => s,
+        Act::Types(kind) => rounds::all_out(s),
         Act::Raises(x) => rounds::raised(s, x),
+    }
+}
+
+// The mutator whose flag the act puts up; 0 for none.
+pub fn raises(act: Act) -> u8
+    ensures { λ r. ⌜ r ≡ raisesOf act ⌝ }
+{
+    match act {
+        Act::Nothing => 0,
+        Act::Writes(store) => 0,
+        Act::Commits => 0,
+        Act::Locks => 0,
+        Act::Unlocks => 0,
+        Act::Allocates(x) => 0,
+        Act::Frees(x) => 0,
+        Act::Lists(w) => 0,
+        Act::Types(kind) => 0,
+        Act::Raises(x) => x,
     }
 }
 
@@ -107,27 +131,40 @@ pub fn settled(mut s: State, p: u8, t: Turn) -> Answer
     let d = acted(m, p, act);
     if d.no == 0 {
         let q = t.process;
+        let h = s.hands;
         let next = d.memory;
+        let hands = handed(h, act);
         s.memory = next;
+        s.hands = hands;
         return shaken(s, act).goes(p, q);
     }
     s.refused(d.no)
+}
+
+// So far, or to the whole where no state has a place for process p.
+fn to_place(p: u8, way: u8) -> u8
+    ensures { λ r. ⌜ r ≡ toPlace p way ⌝ }
+{
+    if State::MUTATORS < p {
+        return WHOLE;
+    }
+    way
 }
 
 fn reach(act: Act) -> u8
     ensures { λ r. ⌜ r ≡ reachOf act ⌝ }
 {
     match act {
-        Act::Nothing => ALONE,
+        Act::Nothing => LIST,
         Act::Writes(store) => MEMORY,
         Act::Commits => MEMORY,
         Act::Locks => MEMORY,
         Act::Unlocks => MEMORY,
         Act::Allocates(x) => MEMORY,
         Act::Frees(x) => MEMORY,
-        Act::Lists(w) => WHOLE,
+        Act::Lists(w) => LIST,
         Act::Types(kind) => WHOLE,
-        Act::Raises(x) => WHOLE,
+        Act::Raises(x) => to_place(x, FLAG),
     }
 }
 
@@ -138,11 +175,8 @@ pub fn way(p: u8, t: Turn) -> u8
     if t.no != 0 {
         return WHOLE;
     }
-    if State::MUTATORS < p {
-        return WHOLE;
-    }
     let act = t.act;
-    reach(act)
+    to_place(p, reach(act))
 }
 
 // Where process p stands in a state, or some other place where there is none such: `seated` tells.
@@ -157,7 +191,7 @@ pub fn seat(p: u8) -> usize
 }
 
 // Process p, where q stands at its seat; a number past the last is nobody.
-pub fn seated(p: u8, q: Process) -> Process
+fn seated(p: u8, q: Process) -> Process
     ensures { λ r. ⌜ r ≡ seatedOf p q ⌝ }
 {
     if State::MUTATORS < p {

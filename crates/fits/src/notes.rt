@@ -1,20 +1,10 @@
 // A process's notes, column by column of the table: in range where they are in use, and zero where they are not.
 use super::table::Uses;
 use buffers::Spot;
+use buffers::is_cell;
 use state::Process;
 ghost use mathlib.Core.Path.{_≡_};
-ghost use Rattle.buffers.specs.Fits.{isCellOf};
 ghost use Rattle.fits.specs.WellFormed.{storeFitsOf, noStoreOf, notesFitOf, leftFitsOf, noMarkOf, lookFitsOf, greyFitsOf, markFitsOf, roundFitsOf, namedFitsOf, stageFitsOf, placeFitsOf};
-
-// x is one of the cells 1 to n.
-pub fn is_cell(n: u8, x: u8) -> bool
-    ensures { λ r. ⌜ r ≡ isCellOf n x ⌝ }
-{
-    if 0 < x {
-        return x <= n;
-    }
-    false
-}
 
 // The notes of a running store: a cell, one of its fields, two values.
 fn store_fits(n: u8, q: Process) -> bool

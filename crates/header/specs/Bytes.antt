@@ -11,9 +11,12 @@ byteAt log at = getD log at 0
 abbrev pub perByte : ℕ
 perByte = 256
 
--- 16 bits
+-- 16 bits, of two bytes and at a place
+abbrev pub joinedOf : ℕ → ℕ → ℕ
+joinedOf low high = low + perByte * high
+
 unfoldable pub pairAt : List ℕ → ℕ → ℕ
-pairAt log at = byteAt log at + perByte * byteAt log (at + 1)
+pairAt log at = joinedOf (byteAt log at) (byteAt log (at + 1))
 
 -- 32 bits
 unfoldable pub wordAt : List ℕ → ℕ → ℕ

@@ -1,6 +1,6 @@
 // The bytes of a log, and the numbers made of two and of four: "little-endian, as all here".
 ghost use mathlib.Core.Path.{_≡_};
-ghost use Rattle.header.specs.Bytes.{byteAt, pairAt, wordAt};
+ghost use Rattle.header.specs.Bytes.{byteAt, joinedOf, pairAt, wordAt};
 
 // How much more a byte counts than the one before it.
 struct Weight;
@@ -19,6 +19,13 @@ pub fn byte(log: &[u8], at: usize) -> u8
     0
 }
 
+// 16 bits of two bytes, the lower first.
+pub fn joined(low: u8, high: u8) -> u16
+    ensures { λ r. ⌜ r ≡ joinedOf low high ⌝ }
+{
+    (low as u16) + Weight::PER_BYTE * (high as u16)
+}
+
 // 16 bits. Past the end both bytes are 0, and at + 1 need not be asked.
 pub fn pair(log: &[u8], at: usize) -> u16
     ensures { λ r. ⌜ r ≡ pairAt (now (log .entry)) at ⌝ }
@@ -26,9 +33,7 @@ pub fn pair(log: &[u8], at: usize) -> u16
     if log.len() <= at {
         return 0;
     }
-    let low = byte(log, at);
-    let high = byte(log, at + 1);
-    (low as u16) + Weight::PER_BYTE * (high as u16)
+    joined(byte(log, at), byte(log, at + 1))
 }
 
 // 32 bits.

@@ -14,6 +14,7 @@ use lib.Seq.{getD-set-other}
 use Rattle.cells.specs.Sets.{Member}
 use Rattle.cells.proofs.Belows.{below-range}
 use Rattle.memory.specs.declared.Memory.{Memory}
+use Rattle.memory.proofs.Effects.{write-settled, commit-settled, lock-settled, unlock-settled, allocate-used, free-used}
 use Rattle.state.specs.declared.Kind.{Kind}
 use Rattle.state.specs.declared.Process.{Process}
 use Rattle.state.specs.declared.State.{State}
@@ -28,7 +29,7 @@ use Rattle.rows.specs.Reasons.{mover}
 use Rattle.kept.specs.Leaves.{Writes, Stored, Occupied, Handed, Beside, Changed}
 use Rattle.kept.specs.Kept.{Counted}
 use Rattle.kept.proofs.Frames.{named, off-process}
-use Rattle.kept.proofs.Memories.{write-settled, commit-settled, lock-settled, unlock-settled, settled-counted, allocate-counted, free-counted, allocate-used, free-used}
+use Rattle.kept.proofs.Memories.{settled-counted, allocate-counted, free-counted}
 use Rattle.kept.proofs.Collector.{round-place}
 
 -- ---- each row makes one of five changes

@@ -1,6 +1,5 @@
--- What memory's steps leave alone: the counts, and the set of occupied cells. Assumes nothing.
---     write-settled, commit-settled, lock-settled, unlock-settled, allocate-used, free-used     memory's own laws, passed on
---     settled-counted, allocate-counted, free-counted                                           the counts, as the statement of specs/
+-- What memory's steps leave alone: the counts. Assumes nothing.
+--     settled-counted, allocate-counted, free-counted     the counts, as the statement of specs/
 use Prim.Native.Nat.{ℕ}
 use mathlib.Core.Path.{_≡_}
 use Rattle.memory.specs.declared.Memory.{Memory}
@@ -9,7 +8,6 @@ use Rattle.memory.specs.Steps.{allocateOf, freeOf}
 use Rattle.memory.proofs.Spots.{Settled}
 use Rattle.memory.proofs.Effects.{allocate-counts, free-counts}
 use Rattle.kept.specs.Kept.{Counted}
-pub use Rattle.memory.proofs.Effects.{write-settled, commit-settled, lock-settled, unlock-settled, allocate-used, free-used}
 
 module _ {m n : Memory} where
   pub settled-counted : Settled m n → Counted m n

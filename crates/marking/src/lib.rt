@@ -19,7 +19,7 @@ pub struct Marked {
 }
 
 // The cell being marked: the old value or y of a running store, else the one noted.
-pub fn cell(q: Process) -> u8
+fn cell(q: Process) -> u8
     ensures { λ r. ⌜ r ≡ markedCell q ⌝ }
 {
     if q.place == Process::STORE_MARK_OLD {
@@ -97,7 +97,7 @@ impl Marked {
 }
 
 // "look at r's mark"
-pub fn look(m: Memory, p: u8, mut q: Process) -> Marked
+fn look(m: Memory, p: u8, mut q: Process) -> Marked
     ensures { λ r. ⌜ r ≡ lookTurn m p q ⌝ }
 {
     let l = m.look_mark(p, cell(q));

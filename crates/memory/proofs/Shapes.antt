@@ -36,7 +36,7 @@ use Rattle.buffers.proofs.Fifos.{Sized, pending-length, pending-none}
 use Rattle.buffers.proofs.Newests.{newest-none, newest-member, newest-spot}
 use Rattle.memory.specs.declared.Memory.{Memory}
 use Rattle.memory.specs.Memories.{maxCells, maxProcesses, usedOf, noBuffer, bufferOf, withBuffer, pendingLenOf, heldOf}
-pub use Rattle.memory.specs.Views.{pendingFor, viewOf}
+use Rattle.memory.specs.Views.{pendingFor, viewOf}
 
 pub record Shaped (m : Memory) : Type 0 where
   pub marks : length (m .marks) ≡ maxCells

@@ -1,8 +1,11 @@
 -- "Mutator": the turn of the process that the choice c names, which is q now, at each place of a mutator's program, over memory m and the system's
 -- part h. What it comes to is the mutator's step (MutatorSettles). Assumes nothing.
+use mathlib.Core.Bool.{Bool, true}
 use mathlib.Core.Path.{_≡_}
+use Prim.Native.Nat.{ℕ}
 use lib.Dec.{eqb, ltb}
 use Rattle.base.specs.Pick.{pick}
+use Rattle.base.specs.Every.{_and_}
 use Rattle.cells.specs.Sets.{memberOf, addOf, removeOf, unionOf}
 use Rattle.buffers.specs.declared.Store.the-variants as store
 use Rattle.buffers.specs.Fits.{isCellOf}
@@ -20,7 +23,7 @@ use Rattle.state.specs.States.{nextOf, at, noting, leaving, marking, listing}
 use Rattle.state.specs.Choices.{isBlank, isNaming, isBare, isOfX}
 use Rattle.state.specs.Turns.{stopping, going, doing}
 use Rattle.state.specs.Settles.{settledOf}
-use Rattle.marking.specs.Turns.{lookTurn, markTurn, siteTurn}
+use Rattle.marking.specs.Turns.{markTurn, siteTurn}
 use Rattle.mutator.specs.Mutators.{isStore, storing, answerPlace, afterMark, pastFence, stepping, mutatorOf}
 
 -- ---- "At top the choice names an operation: 0 allocate free cell x (mark = memory's fA, null fields, x becomes a root)"
@@ -79,9 +82,25 @@ topTurn m h c q =
     (pick (eqb (c .op) 5) (answerTurn h c q)
     (stopping notOffered q))))))
 
--- ---- a step of a mark whose cell is known
+-- ---- the places of a mark: of a store's old value, of y, of a root
+unfoldable pub isMarking : ℕ → Bool
+isMarking k = pick (eqb k storeMarkOld) true (pick (eqb k storeMarkY) true (eqb k rootsMark))
+
+-- "for roots, mark each root, the choice x naming which remaining one at its first look": whether the step is that look
+unfoldable pub namesRoot : Process → Bool
+namesRoot q = eqb (q .place) rootsMark and eqb (q .stage) lookStage
+
+-- what a step of a mark offers: at that look the roots left; else the place uses no argument
+unfoldable pub isMark : Choice → Process → Bool
+isMark c q = pick (namesRoot q) (isNaming c (q .left)) (isBlank c)
+
+-- at that look the root that the choice names leaves those left, and is the cell to mark; else the cell is known already
+unfoldable pub namedRoot : Choice → Process → Process
+namedRoot c q = pick (namesRoot q) (leaving (removeOf (q .left) (c .x)) (marking (c .x) (q .look) (q .sense) (q .grey) q)) q
+
+-- a step of a mark: of a store's old value or y, or of a root
 unfoldable pub markSiteTurn : Memory → Choice → Process → Turn
-markSiteTurn m c q = pick (isBlank c) (siteTurn afterMark (markTurn m (c .process) q)) (stopping notOffered q)
+markSiteTurn m c q = pick (isMark c q) (siteTurn afterMark (markTurn m (c .process) (namedRoot c q))) (stopping notOffered q)
 
 -- "write the field, clearing the honorary root"
 unfoldable pub storeWriteTurn : Choice → Process → Turn
@@ -92,15 +111,6 @@ storeWriteTurn c q =
 unfoldable pub answerFenceTurn : Memory → Choice → Process → Turn
 answerFenceTurn m c q =
     pick (isBlank c) (let k = fenceOf m (c .process) in pick (eqb (k .no) 0) (going (pastFence q)) (stopping (k .no) q)) (stopping notOffered q)
-
--- "for roots, mark each root, the choice x naming which remaining one at its first look"
-unfoldable pub rootsTurn : Memory → Choice → Process → Turn
-rootsTurn m c q =
-    pick (eqb (q .stage) lookStage)
-    (pick (isNaming c (q .left))
-    (siteTurn afterMark (lookTurn m (c .process) (leaving (removeOf (q .left) (c .x)) (marking (c .x) (q .look) (q .sense) (q .grey) q))))
-    (stopping notOffered q))
-    (markSiteTurn m c q)
 
 -- ---- "then one step lowers the flag, sets in step, and, for roots or work, moves its list to the system's (joining what is there; a no-op answer moves nothing).
 -- That step advances the mutator's handshake phase for no-op and roots."
@@ -117,21 +127,22 @@ unfoldable pub finishWorkTurn : Hands → Choice → Process → Turn
 finishWorkTurn h c q =
     pick (isBlank c) (doing (act.Lists (unionOf (h .work) (q .work))) (stepping (q .part .phase) (listing 0 (q .roots) q))) (stopping notOffered q)
 
--- ---- the turn at a mutator's place; a place that is none of its own is malformed
-unfoldable pub mutatorTurn : Memory → Hands → Choice → Process → Turn
-mutatorTurn m h c q =
+-- ---- the turn at a place of no mark; a place that is none of these is malformed
+unfoldable pub placeTurn : Memory → Hands → Choice → Process → Turn
+placeTurn m h c q =
     pick (eqb (q .place) top) (topTurn m h c q)
-    (pick (eqb (q .place) storeMarkOld) (markSiteTurn m c q)
-    (pick (eqb (q .place) storeMarkY) (markSiteTurn m c q)
     (pick (eqb (q .place) storeWrite) (storeWriteTurn c q)
     (pick (eqb (q .place) noopFence) (answerFenceTurn m c q)
     (pick (eqb (q .place) noopFinish) (finishNoopTurn c q)
     (pick (eqb (q .place) rootsFence) (answerFenceTurn m c q)
-    (pick (eqb (q .place) rootsMark) (rootsTurn m c q)
     (pick (eqb (q .place) rootsFinish) (finishRootsTurn h c q)
     (pick (eqb (q .place) workFence) (answerFenceTurn m c q)
     (pick (eqb (q .place) workFinish) (finishWorkTurn h c q)
-    (stopping malformed q)))))))))))
+    (stopping malformed q))))))))
+
+-- the turn at any place of a mutator's program
+unfoldable pub mutatorTurn : Memory → Hands → Choice → Process → Turn
+mutatorTurn m h c q = pick (isMarking (q .place)) (markSiteTurn m c q) (placeTurn m h c q)
 
 -- ---- turn and step agree
 abbrev pub MutatorSettles : Type 0

@@ -1,7 +1,7 @@
-// "Mutator": a mutator's program. One small step for each operation at the top and for each place below it.
-// Each is of the process that the choice c names, which is q now, over memory m and the system's part h; it answers a turn.
+// "Mutator": a mutator's program. One small step for each operation at the top and for each place below it; of a mark only what is the mutator's own.
+// Each step is of the process that the choice c names, which is q now, over memory m and the system's part h; it answers a turn.
 use buffers::Store;
-use marking::Marked;
+use buffers::is_cell;
 use memory::Memory;
 use state::Answer;
 use state::Choice;
@@ -13,20 +13,8 @@ use state::Process;
 use state::turns::Act;
 use state::turns::Turn;
 ghost use mathlib.Core.Path.{_≡_};
-ghost use Rattle.buffers.specs.Fits.{isCellOf};
-ghost use Rattle.marking.specs.Turns.{siteTurn};
 ghost use Rattle.mutator.specs.Mutators.{isStore, storing, answerPlace, afterMark, pastFence, stepping};
-ghost use Rattle.mutator.specs.Turns.{allocateTurn, dropTurn, readTurn, storeTurn, fenceTurn, answerTurn, topTurn, markSiteTurn, storeWriteTurn, answerFenceTurn, rootsTurn, finishNoopTurn, finishRootsTurn, finishWorkTurn, mutatorTurn};
-
-// "cell 0 or above N" is not one.
-fn is_cell(n: u8, x: u8) -> bool
-    ensures { λ r. ⌜ r ≡ isCellOf n x ⌝ }
-{
-    if 0 < x {
-        return x <= n;
-    }
-    false
-}
+ghost use Rattle.mutator.specs.Turns.{allocateTurn, dropTurn, readTurn, storeTurn, fenceTurn, answerTurn, topTurn, isMarking, namesRoot, isMark, namedRoot, storeWriteTurn, answerFenceTurn, finishNoopTurn, finishRootsTurn, finishWorkTurn, placeTurn};
 
 // "0 allocate free cell x (mark = memory's fA, null fields, x becomes a root)"
 fn allocate(m: Memory, c: Choice, mut q: Process) -> Turn
@@ -35,6 +23,7 @@ fn allocate(m: Memory, c: Choice, mut q: Process) -> Turn
     if !c.of_x() {
         return Turn::stops(Answer::NOT_OFFERED, q);
     }
+    // "cell 0 or above N" is not offered
     if !is_cell(m.cells, c.x) {
         return Turn::stops(Answer::NOT_OFFERED, q);
     }
@@ -180,7 +169,7 @@ fn top(m: Memory, h: Hands, c: Choice, q: Process) -> Turn
 }
 
 // Where a mutator goes when a mark is over: "then mark the old; mark y; write the field"; to the next root, or to the end of the answer.
-fn after_mark(mut q: Process) -> Process
+pub fn after_mark(mut q: Process) -> Process
     ensures { λ r. ⌜ r ≡ afterMark q ⌝ }
 {
     let place = q.place;
@@ -209,34 +198,49 @@ fn after_mark(mut q: Process) -> Process
     }
 }
 
-// A mark step of the mutator: its act is handed on, and the process goes past the mark where it is over.
-fn marked(k: Marked) -> Turn
-    ensures { λ r. ⌜ r ≡ siteTurn afterMark k ⌝ }
+// The places of a mark: of a store's old value, of y, of a root.
+pub fn is_marking(place: u8) -> bool
+    ensures { λ r. ⌜ r ≡ isMarking place ⌝ }
 {
-    let process = k.process;
-    let act = k.act;
-    if k.over {
-        return Turn {
-            process: after_mark(process),
-            act,
-            no: k.no,
-        };
+    if place == Process::STORE_MARK_OLD {
+        return true;
     }
-    Turn {
-        process,
-        act,
-        no: k.no,
+    if place == Process::STORE_MARK_Y {
+        return true;
     }
+    place == Process::ROOTS_MARK
 }
 
-// A step of a mark whose cell is known.
-fn mark(m: Memory, c: Choice, q: Process) -> Turn
-    ensures { λ r. ⌜ r ≡ markSiteTurn m c q ⌝ }
+// "for roots, mark each root, the choice x naming which remaining one at its first look": whether the step is that look.
+fn names_root(q: Process) -> bool
+    ensures { λ r. ⌜ r ≡ namesRoot q ⌝ }
 {
-    if !c.blank() {
-        return Turn::stops(Answer::NOT_OFFERED, q);
+    if q.place == Process::ROOTS_MARK {
+        return q.stage == Process::LOOK;
     }
-    marked(marking::step(m, c.process, q))
+    false
+}
+
+// What a step of a mark offers: at that look the roots left; else the place uses no argument.
+pub fn is_mark(c: Choice, q: Process) -> bool
+    ensures { λ r. ⌜ r ≡ isMark c q ⌝ }
+{
+    if names_root(q) {
+        return c.names(q.left);
+    }
+    c.blank()
+}
+
+// At that look the root that the choice names leaves those left, and is the cell to mark. Else the cell is known already.
+pub fn named_root(c: Choice, mut q: Process) -> Process
+    ensures { λ r. ⌜ r ≡ namedRoot c q ⌝ }
+{
+    if names_root(q) {
+        q.left = cells::remove(q.left, c.x);
+        q.cell = c.x;
+        return q;
+    }
+    q
 }
 
 // "write the field, clearing the honorary root"
@@ -300,21 +304,6 @@ fn answer_fence(m: Memory, c: Choice, q: Process) -> Turn
     Turn::stops(k.no, q)
 }
 
-// "for roots, mark each root, the choice x naming which remaining one at its first look"
-fn roots(m: Memory, c: Choice, mut q: Process) -> Turn
-    ensures { λ r. ⌜ r ≡ rootsTurn m c q ⌝ }
-{
-    if q.stage == Process::LOOK {
-        if !c.names(q.left) {
-            return Turn::stops(Answer::NOT_OFFERED, q);
-        }
-        q.left = cells::remove(q.left, c.x);
-        q.cell = c.x;
-        return marked(marking::look(m, c.process, q));
-    }
-    mark(m, c, q)
-}
-
 // Back at top, the flag lowered and in step, at the given handshake phase.
 fn stepping(phase: Handshake, mut q: Process) -> Process
     ensures { λ r. ⌜ r ≡ stepping phase q ⌝ }
@@ -369,22 +358,20 @@ fn finish_work(h: Hands, c: Choice, mut q: Process) -> Turn
     Turn::does(Act::Lists(joined), stepping(phase, q))
 }
 
-// The step at a mutator's place. A place that is none of its own is malformed.
+// The step at a mutator's place of no mark. Any other place is malformed, those of a mark too: the engine makes the steps of a mark, for every process.
+// Places with the same step share an arm: a function that is called once is inlined, and its arguments are not copied.
 pub fn step(m: Memory, h: Hands, c: Choice, q: Process) -> Turn
-    ensures { λ r. ⌜ r ≡ mutatorTurn m h c q ⌝ }
+    ensures { λ r. ⌜ r ≡ placeTurn m h c q ⌝ }
 {
     let place = q.place;
     match place {
         Process::TOP => top(m, h, c, q),
-        Process::STORE_MARK_OLD => mark(m, c, q),
-        Process::STORE_MARK_Y => mark(m, c, q),
+        Process::STORE_MARK_OLD..=Process::STORE_MARK_Y => Turn::stops(Answer::MALFORMED, q),
         Process::STORE_WRITE => write(c, q),
-        Process::NOOP_FENCE => answer_fence(m, c, q),
+        Process::NOOP_FENCE | Process::ROOTS_FENCE | Process::WORK_FENCE => answer_fence(m, c, q),
         Process::NOOP_FINISH => finish_noop(c, q),
-        Process::ROOTS_FENCE => answer_fence(m, c, q),
-        Process::ROOTS_MARK => roots(m, c, q),
+        Process::ROOTS_MARK => Turn::stops(Answer::MALFORMED, q),
         Process::ROOTS_FINISH => finish_roots(h, c, q),
-        Process::WORK_FENCE => answer_fence(m, c, q),
         Process::WORK_FINISH => finish_work(h, c, q),
         11..=255 => Turn::stops(Answer::MALFORMED, q),
     }

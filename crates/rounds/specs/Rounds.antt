@@ -13,7 +13,7 @@ use Rattle.state.specs.Codes.{malformed, notOffered, fenceStage, typeStage, rai
 use Rattle.state.specs.States.{at, leaving, mutatorsOf, processOf, withHands, refusedOf, goesOf}
 use Rattle.state.specs.Choices.{isBlank, isNaming}
 unfoldable pub use Rattle.state.specs.Handshakes.{outOfStep, allOut, typed, raisedOf}
-pub use Rattle.state.specs.Handshakes.{advanceOf}
+pub use Rattle.state.specs.Handshakes.{advanceOf, flagged}
 use Rattle.rounds.specs.declared.Round.{Round}
 
 -- "fence"

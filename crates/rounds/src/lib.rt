@@ -11,7 +11,7 @@ use state::State;
 use state::turns::Act;
 use state::turns::Turn;
 ghost use mathlib.Core.Path.{_≡_};
-ghost use Rattle.rounds.specs.Rounds.{outOfStep, allOut, advanceOf, typed, raisedOf, raising, polling};
+ghost use Rattle.rounds.specs.Rounds.{outOfStep, allOut, advanceOf, typed, flagged, raisedOf, raising, polling};
 ghost use Rattle.rounds.specs.Turns.{mutatorsIn, fenceRoundTurn, typeRoundTurn, raiseRoundTurn, pollRoundTurn, roundTurn};
 
 // A round of the collector: its type, and the place and stage that follow it.
@@ -110,11 +110,10 @@ fn set_type(m: Memory, c: Choice, mut q: Process, round: Round) -> Turn
     Turn::does(Act::Types(kind), q)
 }
 
-// Mutator x's flag goes up.
-pub fn raised(s: State, x: u8) -> State
-    ensures { λ r. ⌜ r ≡ raisedOf s x ⌝ }
+// The mutator with its flag up.
+pub fn flagged(mut q: Process) -> Process
+    ensures { λ r. ⌜ r ≡ flagged q ⌝ }
 {
-    let mut q = s.process(x);
     let old = q.part;
     let phase = old.phase;
     let part = Part {
@@ -123,7 +122,15 @@ pub fn raised(s: State, x: u8) -> State
         phase,
     };
     q.part = part;
-    s.with_process(x, q)
+    q
+}
+
+// Mutator x's flag goes up.
+pub fn raised(s: State, x: u8) -> State
+    ensures { λ r. ⌜ r ≡ raisedOf s x ⌝ }
+{
+    let q = s.process(x);
+    s.with_process(x, flagged(q))
 }
 
 // The mutators still to be raised; none left: all are awaited.

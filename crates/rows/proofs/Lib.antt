@@ -1,4 +1,3 @@
-pub mod Picking
 pub mod Numbers
 pub mod Deeds
 pub mod Offering

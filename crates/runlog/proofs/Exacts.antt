@@ -30,7 +30,7 @@ use Rattle.runlog.specs.declared.Outcome.{Outcome}
 use Rattle.runlog.specs.declared.record.Record.{Record}
 use Rattle.runlog.specs.declared.run.Run.{Run}
 use Rattle.runlog.specs.Records.{checkOf}
-use Rattle.runlog.specs.Runs.{wrongCheck, fewLeft, stoppedOf, tookOf, answeredOf, turnedOf, onwardOf, closedOf, wholeOf, leftOf, playedOf, outcomeOf, notOpened, judgeIf, judgeOf}
+use Rattle.runlog.specs.Runs.{endedOf, wrongCheck, fewLeft, stoppedOf, tookOf, answeredOf, turnedOf, onwardOf, closedOf, wholeOf, leftOf, playedOf, outcomeOf, notOpened, judgeIf, judgeOf}
 use Rattle.runlog.specs.Rule.{recordOf, Whole, RightCheck, Taken, none, more, Stops, ended, short, wrong, refused, RunTo, Judges, shut, runs}
 use Rattle.runlog.specs.Statements.{RunKeeps, OutcomeExactly, NotAdmitted, NumbersOfRun, afterOf, ranOf}
 use Rattle.runlog.proofs.Turns.{onward-goes, onward-stays, run-stays}
@@ -43,10 +43,6 @@ module _ (P : State → Type 0) (f : (s t : State) (c : Choice) → P s → step
 
 pub run-keeps : RunKeeps
 run-keeps P f log k s o p = keeps P f log o p
-
--- a run by its three parts
-abbrev ran : ℕ → ℕ → State → Run
-ran k n s = record { steps = k; stop = n; state = s }
 
 -- ---- a turn, by what it finds
 turn-wrong : (run : Run) (r : Record) (a : Answer) → (RightCheck r → ⊥) → turnedOf run r a ≡ stoppedOf wrongCheck run
@@ -79,43 +75,43 @@ module _ (log : List ℕ) (adm : Admitted log) where
   answer k s = stepOf s (recordOf log k .choice)
 
   -- ---- what the rule says is what is computed
-  next : (k : ℕ) (s : State) → afterOf log k ≡ ran k 0 s → afterOf log (suc k) ≡ turnedOf (ran k 0 s) (recordOf log k) (answer k s)
+  next : (k : ℕ) (s : State) → afterOf log k ≡ endedOf s k 0 → afterOf log (suc k) ≡ turnedOf (endedOf s k 0) (recordOf log k) (answer k s)
   next k s e =
       ap (λ (q : Run). onwardOf q (recordOf log k)) e
-      ∙ onward-goes (ran k 0 s) (recordOf log k) refl
-      ∙ turn-whole (ran k 0 s) (recordOf log k) (subst (λ (q : Run). WellFormed (q .state)) e (after-formed log k adm))
+      ∙ onward-goes (endedOf s k 0) (recordOf log k) refl
+      ∙ turn-whole (endedOf s k 0) (recordOf log k) (subst (λ (q : Run). WellFormed (q .state)) e (after-formed log k adm))
 
-  pub taken-run : {k : ℕ} {s : State} → Taken log k s → afterOf log k ≡ ran k 0 s
+  pub taken-run : {k : ℕ} {s : State} → Taken log k s → afterOf log k ≡ endedOf s k 0
   taken-run none = refl
   taken-run (more k s t p w r a) =
       let n : answer k s .no ≡ 0 = ap (λ (x : Answer). x .no) a in
       next k s (taken-run p)
-      ∙ turn-right (ran k 0 s) (recordOf log k) (answer k s) r
-      ∙ answered-taken (ran k 0 s) (answer k s) n
-      ∙ ap (λ (x : State). ran (k + 1) 0 x) (ap (λ (x : Answer). x .state) a)
-      ∙ ap (λ (x : ℕ). ran x 0 t) (add-one k)
+      ∙ turn-right (endedOf s k 0) (recordOf log k) (answer k s) r
+      ∙ answered-taken (endedOf s k 0) (answer k s) n
+      ∙ ap (λ (x : State). endedOf x (k + 1) 0) (ap (λ (x : Answer). x .state) a)
+      ∙ ap (λ (x : ℕ). endedOf t x 0) (add-one k)
 
   -- a stop at the record k + 1, which is whole
-  halted : (k n : ℕ) (s : State) → Whole log k → (n ≡ 0 → ⊥) → afterOf log (suc k) ≡ ran k n s → ranOf log ≡ ran k n s
+  halted : (k n : ℕ) (s : State) → Whole log k → (n ≡ 0 → ⊥) → afterOf log (suc k) ≡ endedOf s k n → ranOf log ≡ endedOf s k n
   unfolding playedOf
   halted k n s w z e =
       let l : suc k ≤ wholeOf log = omega arith in
-      ap (λ (q : Run). closedOf q (leftOf log)) (sym (run-stays log (sizeOf log) (openingOf (heapOf log)) (ran k n s) (wholeOf log) (suc k) (sym e) z l))
-      ∙ closed-stays (ran k n s) (leftOf log) z
+      ap (λ (q : Run). closedOf q (leftOf log)) (sym (run-stays log (sizeOf log) (openingOf (heapOf log)) (endedOf s k n) (wholeOf log) (suc k) (sym e) z l))
+      ∙ closed-stays (endedOf s k n) (leftOf log) z
 
-  pub stops-run : {k n : ℕ} {s : State} → Taken log k s → Stops log k s n → ranOf log ≡ ran k n s
+  pub stops-run : {k n : ℕ} {s : State} → Taken log k s → Stops log k s n → ranOf log ≡ endedOf s k n
   unfolding playedOf
   stops-run {k} {n} {s} p (ended e) =
       let w : wholeOf log ≡ k = omega arith in
       let l : leftOf log ≡ 0 = omega arith in
-      ap (λ (q : ℕ). closedOf (afterOf log q) (leftOf log)) w ∙ ap (λ (q : Run). closedOf q (leftOf log)) (taken-run p) ∙ closed-none (ran k 0 s) (leftOf log) refl l
+      ap (λ (q : ℕ). closedOf (afterOf log q) (leftOf log)) w ∙ ap (λ (q : Run). closedOf q (leftOf log)) (taken-run p) ∙ closed-none (endedOf s k 0) (leftOf log) refl l
   stops-run {k} {n} {s} p (short a b) =
       let w : wholeOf log ≡ k = omega arith in
-      ap (λ (q : ℕ). closedOf (afterOf log q) (leftOf log)) w ∙ ap (λ (q : Run). closedOf q (leftOf log)) (taken-run p) ∙ closed-few (ran k 0 s) (leftOf log) refl (λ z. omega arith)
-  stops-run {k} {n} {s} p (wrong w r) = halted k wrongCheck s w (λ z. omega arith) (next k s (taken-run p) ∙ turn-wrong (ran k 0 s) (recordOf log k) (answer k s) r)
+      ap (λ (q : ℕ). closedOf (afterOf log q) (leftOf log)) w ∙ ap (λ (q : Run). closedOf q (leftOf log)) (taken-run p) ∙ closed-few (endedOf s k 0) (leftOf log) refl (λ z. omega arith)
+  stops-run {k} {n} {s} p (wrong w r) = halted k wrongCheck s w (λ z. omega arith) (next k s (taken-run p) ∙ turn-wrong (endedOf s k 0) (recordOf log k) (answer k s) r)
   stops-run {k} {n} {s} p (refused w r a) =
       halted k (answer k s .no) s w a
-      (next k s (taken-run p) ∙ turn-right (ran k 0 s) (recordOf log k) (answer k s) r ∙ answered-refused (ran k 0 s) (answer k s) a)
+      (next k s (taken-run p) ∙ turn-right (endedOf s k 0) (recordOf log k) (answer k s) r ∙ answered-refused (endedOf s k 0) (answer k s) a)
 
   -- ---- what is computed is what the rule says: after the first k records
   data At (k : ℕ) (q : Run) : Type 0 where
@@ -129,19 +125,19 @@ module _ (log : List ℕ) (adm : Admitted log) where
       w : Whole log k
       w = omega arith
 
-      answered : (s : State) → Taken log k s → RightCheck (recordOf log k) → (a : Answer) → a ≡ answer k s → Dec (a .no ≡ 0) → At (suc k) (answeredOf (ran k 0 s) a)
-      answered s p r a e (yes z) = rw (answered-taken (ran k 0 s) a z) (going refl (add-one k) (more k s (a .state) p w r (sym e ∙ ap (λ (n : ℕ). record { no = n; state = a .state }) z)))
+      answered : (s : State) → Taken log k s → RightCheck (recordOf log k) → (a : Answer) → a ≡ answer k s → Dec (a .no ≡ 0) → At (suc k) (answeredOf (endedOf s k 0) a)
+      answered s p r a e (yes z) = rw (answered-taken (endedOf s k 0) a z) (going refl (add-one k) (more k s (a .state) p w r (sym e ∙ ap (λ (n : ℕ). record { no = n; state = a .state }) z)))
       answered s p r a e (no n) =
-          rw (answered-refused (ran k 0 s) a n) (stopped n p (rw e (refused w r (rw e at n))))
+          rw (answered-refused (endedOf s k 0) a n) (stopped n p (rw e (refused w r (rw e at n))))
 
-      turned : (s : State) → Taken log k s → Dec (RightCheck (recordOf log k)) → At (suc k) (turnedOf (ran k 0 s) (recordOf log k) (answer k s))
-      turned s p (yes r) = rw (turn-right (ran k 0 s) (recordOf log k) (answer k s) r) (answered s p r (answer k s) refl (ℕ-discrete (answer k s .no) 0))
-      turned s p (no r) = rw (turn-wrong (ran k 0 s) (recordOf log k) (answer k s) r) (stopped (λ z. omega arith) p (wrong w r))
+      turned : (s : State) → Taken log k s → Dec (RightCheck (recordOf log k)) → At (suc k) (turnedOf (endedOf s k 0) (recordOf log k) (answer k s))
+      turned s p (yes r) = rw (turn-right (endedOf s k 0) (recordOf log k) (answer k s) r) (answered s p r (answer k s) refl (ℕ-discrete (answer k s .no) 0))
+      turned s p (no r) = rw (turn-wrong (endedOf s k 0) (recordOf log k) (answer k s) r) (stopped (λ z. omega arith) p (wrong w r))
 
       go : (q : Run) → afterOf log k ≡ q → At k q → At (suc k) (afterOf log (suc k))
       go q e (stopped n p t) = rw (e, onward-stays q (recordOf log k) n) (stopped n p t)
       go q e (going z y p) =
-          let g : afterOf log k ≡ ran k 0 (q .state) = e ∙ ap₂ (λ (x n : ℕ). ran x n (q .state)) y z in
+          let g : afterOf log k ≡ endedOf (q .state) k 0 = e ∙ ap₂ (endedOf (q .state)) y z in
           rw (next k (q .state) g) (turned (q .state) p (ℕ-discrete (recordOf log k .check) (checkOf (recordOf log k .choice))))
 
   -- and after the last, with what is left

@@ -19,7 +19,7 @@ use Rattle.engine.specs.Steps.{innerOf}
 use Rattle.runlog.specs.declared.record.Record.{Record}
 use Rattle.runlog.specs.declared.run.Run.{Run}
 use Rattle.runlog.specs.Records.{recordSize, recordAt, checkOf}
-use Rattle.runlog.specs.Runs.{wrongCheck, stoppedOf, tookOf, turnOf, onwardIf, onwardOf, runOf}
+use Rattle.runlog.specs.Runs.{wrongCheck, endedOf, stoppedOf, tookOf, turnOf, onwardIf, onwardOf, runOf}
 
 pub onward-goes : (run : Run) (r : Record) → run .stop ≡ 0 → onwardOf run r ≡ turnOf run r
 unfolding onwardOf
@@ -60,24 +60,24 @@ module _ (log : List ℕ) (at : ℕ) (s : State) where
 
   -- the run goes on, in the state t after k records
   abbrev pub Ongoing : State → ℕ → Type 0
-  Ongoing t k = record { state = t; steps = k; stop = 0 } ≡ runOf log at s k
+  Ongoing t k = endedOf t k 0 ≡ runOf log at s k
 
   module _ (t : State) (k n : ℕ) (r : Record) (o : Ongoing t k) (e : r ≡ recordAt log (at + recordSize * k)) (l : k < n) where
     -- the record is turned down, and those after it change nothing
-    halted : (m : ℕ) → (m ≡ 0 → ⊥) → turnOf (record { state = t; steps = k; stop = 0 }) r ≡ record { state = t; steps = k; stop = m } → record { state = t; steps = k; stop = m } ≡ runOf log at s n
+    halted : (m : ℕ) → (m ≡ 0 → ⊥) → turnOf (endedOf t k 0) r ≡ endedOf t k m → endedOf t k m ≡ runOf log at s n
     halted m z h =
-        let run : Run = record { state = t; steps = k; stop = 0 } in
-        let q : Run = record { state = t; steps = k; stop = m } in
+        let run : Run = endedOf t k 0 in
+        let q : Run = endedOf t k m in
         run-stays q n (k + 1) (run-more run q k o refl (sym h ∙ ap (turnOf run) e)) z (omega arith)
 
-    pub wrong-halts : (r .check ≡ checkOf (r .choice) → ⊥) → record { state = t; steps = k; stop = wrongCheck } ≡ runOf log at s n
-    wrong-halts h = halted wrongCheck (λ z. omega arith) (turn-wrong (record { state = t; steps = k; stop = 0 }) r h)
+    pub wrong-halts : (r .check ≡ checkOf (r .choice) → ⊥) → endedOf t k wrongCheck ≡ runOf log at s n
+    wrong-halts h = halted wrongCheck (λ z. omega arith) (turn-wrong (endedOf t k 0) r h)
 
     module _ (right : r .check ≡ checkOf (r .choice)) where
-      pub refused-halts : (m : ℕ) → innerOf t (r .choice) .no ≡ m → (m ≡ 0 → ⊥) → record { state = t; steps = k; stop = m } ≡ runOf log at s n
-      refused-halts m f z = halted m z (turn-stops (record { state = t; steps = k; stop = 0 }) r m right f z)
+      pub refused-halts : (m : ℕ) → innerOf t (r .choice) .no ≡ m → (m ≡ 0 → ⊥) → endedOf t k m ≡ runOf log at s n
+      refused-halts m f z = halted m z (turn-stops (endedOf t k 0) r m right f z)
 
       pub taken-goes : (u : State) → innerOf t (r .choice) ≡ takenOf u → Ongoing u (k + 1)
       taken-goes u f =
-          let run : Run = record { state = t; steps = k; stop = 0 } in
-          run-more run (record { state = u; steps = k + 1; stop = 0 }) k o refl (sym (turn-taken run r u right f) ∙ ap (turnOf run) e)
+          let run : Run = endedOf t k 0 in
+          run-more run (endedOf u (k + 1) 0) k o refl (sym (turn-taken run r u right f) ∙ ap (turnOf run) e)

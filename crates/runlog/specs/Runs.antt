@@ -23,17 +23,21 @@ wrongCheck = 13
 abbrev pub fewLeft : ℕ
 fewLeft = 14
 
+-- a run that has come to the state s, with k records taken and the stop n
+abbrev pub endedOf : State → ℕ → ℕ → Run
+endedOf s k n = record { steps = k; stop = n; state = s }
+
 -- no record taken yet, and no stop
 abbrev pub startOf : State → Run
-startOf s = record { steps = 0; stop = 0; state = s }
+startOf s = endedOf s 0 0
 
 -- stopped: nothing else changes
 abbrev pub stoppedOf : ℕ → Run → Run
-stoppedOf n run = record { steps = run .steps; stop = n; state = run .state }
+stoppedOf n run = endedOf (run .state) (run .steps) n
 
 -- one record more taken, to the state t
 abbrev pub tookOf : Run → State → Run
-tookOf run t = record { steps = run .steps + 1; stop = 0; state = t }
+tookOf run t = endedOf t (run .steps + 1) 0
 
 -- "A refused record stops with its number."
 abbrev pub answeredOf : Run → Answer → Run

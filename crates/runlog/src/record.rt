@@ -1,9 +1,10 @@
 // A record of the log: "process, kind, operation, x, f, y, and a 16-bit check".
-use header::bytes::byte;
-use header::bytes::pair;
+use header::bytes::joined;
 use state::Choice;
 ghost use mathlib.Core.Path.{_≡_};
-ghost use Rattle.runlog.specs.Records.{choiceAt, recordAt, checkOf};
+ghost use Prim.Native.Nat.{_+_, _≤_};
+ghost use lib.ListN.{length};
+ghost use Rattle.runlog.specs.Records.{recordSize, choiceAt, recordAt, checkOf};
 
 // What a record asks for, and its check.
 pub struct Record {
@@ -21,30 +22,33 @@ impl Record {
 
 // The six numbers from a place on.
 fn choice(log: &[u8], at: u32) -> Choice
+    requires { ⌜ at + recordSize ≤ length (now log) ⌝ }
     ensures { λ r. ⌜ r ≡ choiceAt (now (log .entry)) at ⌝ }
 {
     let i = at as usize;
     Choice {
-        process: byte(log, i),
-        kind: byte(log, i + 1),
-        op: byte(log, i + 2),
-        x: byte(log, i + 3),
-        f: byte(log, i + 4),
-        y: byte(log, i + 5),
+        process: log[i],
+        kind: log[i + 1],
+        op: log[i + 2],
+        x: log[i + 3],
+        f: log[i + 4],
+        y: log[i + 5],
     }
 }
 
-// The record from a place on.
-pub fn read(log: &[u8], at: u32) -> Record
+// The record from a place on. It stands whole in the log: no byte of it is asked for twice.
+pub(crate) fn read(log: &[u8], at: u32) -> Record
+    requires { ⌜ at + recordSize ≤ length (now log) ⌝ }
     ensures { λ r. ⌜ r ≡ recordAt (now (log .entry)) at ⌝ }
 {
     let choice = choice(log, at);
-    let check = pair(log, (at as usize) + Record::CHECK);
+    let i = (at as usize) + Record::CHECK;
+    let check = joined(log[i], log[i + 1]);
     Record { choice, check }
 }
 
 // "the sum of those six plus 1"
-pub fn check_of(c: Choice) -> u16
+pub(crate) fn check_of(c: Choice) -> u16
     ensures { λ r. ⌜ r ≡ checkOf c ⌝ }
 {
     (c.process as u16)

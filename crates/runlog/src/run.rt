@@ -8,7 +8,7 @@ ghost use Prim.Native.Nat.{_+_, _*_, _≤_};
 ghost use lib.ListN.{length};
 ghost use Rattle.header.specs.Header.{maxLog, sizeOf};
 ghost use Rattle.runlog.specs.Records.{recordSize};
-ghost use Rattle.runlog.specs.Runs.{stoppedOf, runOf, closedOf, playedOf};
+ghost use Rattle.runlog.specs.Runs.{endedOf, stoppedOf, runOf, closedOf, playedOf};
 
 // What a run has come to: the state, the records taken, and the stop, 0 while there is none.
 pub struct Run {
@@ -22,16 +22,19 @@ impl Run {
 
     pub const FEW_LEFT: u8 = 14;
 
+    // A run that has come to this state, so many records taken.
+    fn ended(state: State, steps: u32, stop: u8) -> Run
+        ensures { λ r. ⌜ r ≡ endedOf state steps stop ⌝ }
+    {
+        Run { state, steps, stop }
+    }
+
     // Stopped by a number: nothing else changes.
     fn stopped(self, no: u8) -> Run
         ensures { λ r. ⌜ r ≡ stoppedOf no self ⌝ }
     {
         let s = self.state;
-        Run {
-            state: s,
-            steps: self.steps,
-            stop: no,
-        }
+        Run::ended(s, self.steps, no)
     }
 
     // "Fewer than 8 bytes left: stop 14. None left: stop 0."
@@ -51,7 +54,7 @@ impl Run {
 // The run of so many records, from a place on. A wrong check comes before any refusal of that record.
 // The state is this function's own and changes in place: a step that took and returned it would copy it whole at each record, which costs more than the step.
 fn records(log: &[u8], at: u32, start: State, whole: u32) -> Run
-    requires { ⌜ at + recordSize * whole ≤ maxLog ⌝ }
+    requires { ⌜ (at + recordSize * whole ≤ length (now log)) × (length (now log) ≤ maxLog) ⌝ }
     ensures { λ r. ⌜ r ≡ runOf (now (log .entry)) at start whole ⌝ }
 {
     let mut state = start;
@@ -60,11 +63,7 @@ fn records(log: &[u8], at: u32, start: State, whole: u32) -> Run
         let r = record::read(log, at + Record::SIZE * steps);
         let c = r.choice;
         if r.check != record::check_of(c) {
-            return Run {
-                state,
-                steps,
-                stop: Run::WRONG_CHECK,
-            };
+            return Run::ended(state, steps, Run::WRONG_CHECK);
         }
         let i = settles::seat(c.process);
         let j = settles::seat(c.x);
@@ -73,47 +72,46 @@ fn records(log: &[u8], at: u32, start: State, whole: u32) -> Run
         let m = state.memory;
         let h = state.hands;
         let t = settles::turned(m, h, c, q, other);
+        let act = t.act;
+        let next = t.process;
         let way = settles::way(c.process, t);
-        if way == settles::ALONE {
-            let next = t.process;
+        if way == settles::LIST {
+            let hands = settles::handed(h, act);
+            state.hands = hands;
             state.procs[i] = next;
             steps += 1;
             continue;
         }
         if way == settles::MEMORY {
-            let act = t.act;
-            let d = settles::acted(m, c.process, act);
+            let held = state.memory;
+            let d = settles::acted(held, c.process, act);
             if d.no != 0 {
-                return Run {
-                    state,
-                    steps,
-                    stop: d.no,
-                };
+                return Run::ended(state, steps, d.no);
             }
             let memory = d.memory;
-            let next = t.process;
             state.memory = memory;
+            state.procs[i] = next;
+            steps += 1;
+            continue;
+        }
+        if way == settles::FLAG {
+            let k = settles::seat(settles::raises(act));
+            let lowered = state.procs[k];
+            let flagged = rounds::flagged(lowered);
+            state.procs[k] = flagged;
             state.procs[i] = next;
             steps += 1;
             continue;
         }
         let a = settles::settled(state, c.process, t);
         if a.no != 0 {
-            return Run {
-                state,
-                steps,
-                stop: a.no,
-            };
+            return Run::ended(state, steps, a.no);
         }
-        let next = a.state;
-        state = next;
+        let after = a.state;
+        state = after;
         steps += 1;
     }
-    Run {
-        state,
-        steps,
-        stop: 0,
-    }
+    Run::ended(state, steps, 0)
 }
 
 // The run of all that follows the header.

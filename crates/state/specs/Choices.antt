@@ -1,9 +1,10 @@
 -- Which arguments of a choice a place uses: "an argument this place doesn't use isn't zero, or one it uses isn't offered". Assumes nothing.
 use mathlib.Core.Bool.{Bool}
 use Prim.Native.Nat.{ℕ}
-use lib.Dec.{eqb, ltb, leb}
+use lib.Dec.{eqb}
 use Rattle.base.specs.Every.{_and_}
 use Rattle.cells.specs.Sets.{memberOf}
+use Rattle.buffers.specs.Fits.{isCellOf}
 use Rattle.state.specs.declared.State.{State}
 use Rattle.state.specs.declared.Choice.{Choice}
 
@@ -23,4 +24,4 @@ isNaming c s = eqb (c .op) 0 and isOfX c and memberOf s (c .x)
 
 -- "cell 0 or above N" is none
 unfoldable pub isCell : State → ℕ → Bool
-isCell s x = ltb 0 x and leb x (s .memory .cells)
+isCell s x = isCellOf (s .memory .cells) x

@@ -5,6 +5,7 @@ use Rattle.state.specs.declared.Handshake.{Handshake}
 use Rattle.state.specs.declared.Kind.{Kind}
 use Rattle.state.specs.declared.Kind.the-variants as kind
 use Rattle.state.specs.declared.Hands.{Hands}
+use Rattle.state.specs.declared.Process.{Process}
 use Rattle.state.specs.declared.State.{State}
 use Rattle.state.specs.States.{nextOf, shaking, processOf, withProcess}
 
@@ -25,5 +26,8 @@ unfoldable pub typed : Hands → Kind → Hands
 typed h k = record { kind = k; phase = advanceOf k (h .phase); work = h .work }
 
 -- "raise each flag once, x naming the mutator"
+abbrev pub flagged : Process → Process
+flagged q = shaking true (q .part .in_step) (q .part .phase) q
+
 unfoldable pub raisedOf : State → ℕ → State
-raisedOf s x = let q = processOf s x in withProcess s x (shaking true (q .part .in_step) (q .part .phase) q)
+raisedOf s x = withProcess s x (flagged (processOf s x))

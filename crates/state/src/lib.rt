@@ -5,8 +5,8 @@ pub mod opening;
 pub mod turns;
 
 ghost use mathlib.Core.Path.{_≡_};
-ghost use Rattle.state.specs.States.{nextOf, typeNumber, phaseNumber, noProcess, processOf, withProcess, refusedOf, takenOf, goesOf, actsOf, mutatorsOf};
-ghost use Rattle.state.specs.Choices.{isBlank, isNaming, isBare, isOfX, isCell};
+ghost use Rattle.state.specs.States.{nextOf, typeNumber, phaseNumber, noProcess, processOf, withProcess, refusedOf, takenOf, goesOf, mutatorsOf};
+ghost use Rattle.state.specs.Choices.{isBlank, isNaming, isBare, isOfX};
 
 // A handshake phase: "Idle, IdleInit, InitMark, Mark, IdleMarkSweep, Idle".
 pub enum Handshake {
@@ -340,17 +340,6 @@ impl State {
         n - 1
     }
 
-    // "cell 0 or above N" is not one.
-    pub fn is_cell(self, x: u8) -> bool
-        ensures { λ r. ⌜ r ≡ isCell self x ⌝ }
-    {
-        if 0 < x {
-            let m = self.memory;
-            return x <= m.cells;
-        }
-        false
-    }
-
     // The p-th process; a number past the last is nobody.
     pub fn process(self, p: u8) -> Process
         ensures { λ r. ⌜ r ≡ processOf self p ⌝ }
@@ -396,13 +385,5 @@ impl State {
         ensures { λ r. ⌜ r ≡ goesOf self p q ⌝ }
     {
         self.with_process(p, q).taken()
-    }
-
-    // Taken: memory becomes m, and process p becomes q.
-    pub fn acts(mut self, m: Memory, p: u8, q: Process) -> Answer
-        ensures { λ r. ⌜ r ≡ actsOf self m p q ⌝ }
-    {
-        self.memory = m;
-        self.goes(p, q)
     }
 }

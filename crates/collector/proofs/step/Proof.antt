@@ -1,58 +1,38 @@
 use borrow.Author.Needs.{needs}
-use Rattle.base.proofs.Picks.{picks}
-use Rattle.collector.specs.Turns.{collectorTurn}
+use borrow.Author.Tests.{ne-eqb}
+use mathlib.Core.Logic.{inl, inr, ⊎-elim}
+use mathlib.Core.Path.{_≡_}
+use Rattle.state.specs.Codes.{row6Take, row8Take}
+use Rattle.collector.specs.Turns.{rowTurn}
+use Rattle.collector.proofs.Places.{round-apart, round-range, round-none}
 use Rattle.collector.proofs.step.Statement.{statement}
 use Rattle.collector.proofs.step.Tie as tie
 
 returns : tie.Need-returns
-unfolding collectorTurn
-returns c = simp (c .before .match .keys1) (c .round .ensures)
+unfolding rowTurn
+returns c =
+    let place = c .before .before .args .q .place in
+    ⊎-elim
+    (λ (e : place ≡ row6Take). simp e (c .take .ensures))
+    (λ (e : place ≡ row8Take). simp e (c .take .ensures))
+    (c .before .match .keys2)
 
 returns-2 : tie.Need-returns-2
-unfolding collectorTurn
-returns-2 c = simp (c .before .match .keys2) (c .round2 .ensures)
+unfolding rowTurn
+returns-2 c =
+    let place = c .before .before .before .args .q .place in
+    let others = c .before .before .match .rest in
+    rw
+    (round-none place (others .0 .1) (⊎-elim (λ t. inl (t .taken)) (λ t. inr (t .1 .left)) (c .before .if1 .came)), ne-eqb place row6Take (λ e. others .1 (inl e)), ne-eqb place row8Take (λ e. others .1 (inr e)))
+    (c .scan .ensures)
 
 returns-3 : tie.Need-returns-3
-unfolding collectorTurn
-returns-3 c = simp (c .before .match .keys3) (c .round3 .ensures)
-
-returns-4 : tie.Need-returns-4
-unfolding collectorTurn
-returns-4 c = simp (c .before .match .keys4) (c .round4 .ensures)
-
-returns-5 : tie.Need-returns-5
-unfolding collectorTurn
-returns-5 c = simp (c .before .match .keys5) (c .round5 .ensures)
-
-returns-6 : tie.Need-returns-6
-unfolding collectorTurn
-returns-6 c = simp (c .before .match .keys6) (c .take .ensures)
-
-returns-7 : tie.Need-returns-7
-unfolding collectorTurn
-returns-7 c = simp (c .before .match .keys7) (c .round6 .ensures)
-
-returns-8 : tie.Need-returns-8
-unfolding collectorTurn
-returns-8 c = rw (← c .scan .ensures) (search (needs, picks, c .before .match .rest .1, c .before .match .rest .0 .1, c .before .match .rest .0 .0 .1, c .before .match .rest .0 .0 .0 .1, c .before .match .rest .0 .0 .0 .0 .1, c .before .match .rest .0 .0 .0 .0 .0 .1, c .before .match .rest .0 .0 .0 .0 .0 .0 .1) depth 16)
+unfolding rowTurn
+returns-3 c =
+    let place = c .before .before .before .args .q .place in
+    rw
+    (⊎-elim (λ t. round-apart place (t .keys1)) (λ t. round-range place (t .1 .left) (t .2 .taken)) (c .before .before .match .came), ← c .before .row-round .ensures)
+    (c .step .ensures)
 
 pub step-spec : {M : Type 1} → statement M
-step-spec =
-    tie.close
-    (tie.spec
-    (search needs)
-    (search needs)
-    (search needs)
-    (search needs)
-    (search needs)
-    (search needs)
-    (search needs)
-    (search needs)
-    returns
-    returns-2
-    returns-3
-    returns-4
-    returns-5
-    returns-6
-    returns-7
-    returns-8)
+step-spec = tie.close (tie.spec (search needs) (search needs) (search needs) (search needs) returns returns-2 returns-3)

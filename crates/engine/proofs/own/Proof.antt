@@ -1,17 +1,21 @@
+use mathlib.Core.Path.{sym, _∙_}
 use borrow.Author.Needs.{needs}
-use Rattle.base.proofs.Picks.{picks}
-use Rattle.engine.specs.Turns.{ownTurn}
+use borrow.Author.Tests.{eq-eqb, ne-eqb}
+use Rattle.engine.proofs.Owns.{own-marks, own-collector, own-mutator}
 use Rattle.engine.proofs.own.Statement.{statement}
 use Rattle.engine.proofs.own.Tie as tie
 use Rattle.mutator.proofs.step.Reads as step-reads′
 
 returns : tie.Need-returns
-unfolding ownTurn
-returns c = rw (← c .step .ensures) (search (needs, picks, c .before .if1 .taken) depth 16)
+returns c = c .mark .ensures ∙ own-marks _ _ _ _ _ (sym (c .before .before .is-marking .ensures) ∙ c .before .if1 .taken)
 
 returns-2 : tie.Need-returns-2
-unfolding ownTurn
-returns-2 c = rw (← c .step2 .ensures) (search (needs, picks, c .before .if1 .left) depth 16)
+returns-2 c =
+    c .step .ensures ∙ own-collector _ _ _ _ _ (sym (c .before .before .before .before .is-marking .ensures) ∙ c .before .before .before .if1 .left) (eq-eqb _ 0 (c .before .if2 .taken))
+
+returns-3 : tie.Need-returns-3
+returns-3 c =
+    c .step2 .ensures ∙ own-mutator _ _ _ _ _ (sym (c .before .before .before .before .is-marking .ensures) ∙ c .before .before .before .if1 .left) (ne-eqb _ 0 (c .before .if2 .left))
 
 pub own-spec : {M : Type 1} → statement M
-own-spec = tie.close (tie.spec (search needs) returns (search needs) returns-2)
+own-spec = tie.close (tie.spec (search needs) (search needs) returns (search needs) returns-2 (search needs) returns-3)

@@ -24,10 +24,10 @@ returns-7 : tie.Need-returns-7
 returns-7 c = simp (c .before .act3 .given .1)
 
 returns-8 : tie.Need-returns-8
-returns-8 c = simp (c .listed .ensures, c .before .before .act4 .given .1)
+returns-8 c = simp (c .before .act4 .given .1)
 
 returns-9 : tie.Need-returns-9
-returns-9 c = simp (c .typed .ensures, c .before .before .act5 .given .1)
+returns-9 c = simp (c .all-out .ensures, c .before .before .act5 .given .1)
 
 returns-10 : tie.Need-returns-10
 returns-10 c = simp (c .raised .ensures, c .before .before .act6 .given .1)
@@ -36,7 +36,6 @@ pub shaken-spec : {M : Type 1} → statement M
 shaken-spec =
     tie.close
     (tie.spec
-    (search needs)
     (search needs)
     (search needs)
     (search needs)

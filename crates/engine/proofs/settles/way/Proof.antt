@@ -10,11 +10,7 @@ returns c = search (needs, picks, c .if1 .taken) depth 16
 
 returns-2 : tie.Need-returns-2
 unfolding wayOf
-returns-2 c = search (needs, picks, c .if2 .taken, c .before .if1 .left) depth 16
-
-returns-3 : tie.Need-returns-3
-unfolding wayOf
-returns-3 c = rw (← c .reach .ensures) (search (needs, picks, c .before .if2 .left, c .before .before .if1 .left) depth 16)
+returns-2 c = rw (← c .before .reach .ensures, ← c .to-place .ensures) (search (needs, picks, c .before .before .if1 .left) depth 16)
 
 pub way-spec : {M : Type 1} → statement M
-way-spec = tie.close (tie.spec returns returns-2 (search needs) returns-3)
+way-spec = tie.close (tie.spec returns (search needs) (search needs) returns-2)

@@ -18,7 +18,7 @@ returns c =
 
 returns-2 : tie.Need-returns-2
 unfolding pairAt
-returns-2 c = rw (← c .before .byte .ensures, ← c .byte2 .ensures) (search needs)
+returns-2 c = rw (← c .before .before .byte .ensures, ← c .before .byte2 .ensures, ← c .joined .ensures) (search needs)
 
 pub pair-spec : {M : Type 1} → statement M
-pair-spec = tie.close (tie.spec returns (search needs) (search needs) (search needs) (search needs) (search needs) (search needs) (search needs) returns-2)
+pair-spec = tie.close (tie.spec returns (search needs) (search needs) (search needs) (search needs) returns-2)

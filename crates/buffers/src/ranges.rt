@@ -3,22 +3,13 @@ use super::Buffer;
 use super::Entry;
 use super::Spot;
 use super::Store;
+use super::is_cell;
 ghost use mathlib.Core.Path.{_≡_};
-ghost use Rattle.buffers.specs.Fits.{isCellOf, storeFitsOf, storeEmptyOf, entryFitsOf, bufferFitsOf};
+ghost use Rattle.buffers.specs.Fits.{storeFitsOf, storeEmptyOf, entryFitsOf, bufferFitsOf};
 
 impl Spot {
     // How many fields a cell has.
     pub const FIELDS: u8 = 2;
-}
-
-// c is one of the cells 1 to n.
-fn is_cell(n: u8, c: u8) -> bool
-    ensures { λ r. ⌜ r ≡ isCellOf n c ⌝ }
-{
-    if 0 < c {
-        return c <= n;
-    }
-    false
 }
 
 impl Store {

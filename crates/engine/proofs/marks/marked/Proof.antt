@@ -1,8 +1,8 @@
 use borrow.Author.Needs.{needs}
 use Rattle.base.proofs.Picks.{picks}
 use Rattle.marking.specs.Turns.{siteTurn}
-use Rattle.mutator.proofs.marked.Statement.{statement}
-use Rattle.mutator.proofs.marked.Tie as tie
+use Rattle.engine.proofs.marks.marked.Statement.{statement}
+use Rattle.engine.proofs.marks.marked.Tie as tie
 
 returns : tie.Need-returns
 unfolding siteTurn

@@ -1,8 +1,8 @@
--- `buffers::fits::is_cell` meets its contract. Assumes nothing.
+-- `buffers::is_cell` meets its contract. Assumes nothing.
 use borrow.Author.Needs.{needs}
 use Rattle.base.proofs.Picks.{picks}
-use Rattle.buffers.proofs.fits.is_cell.Statement.{statement}
-use Rattle.buffers.proofs.fits.is_cell.Tie as tie
+use Rattle.buffers.proofs.is_cell.Statement.{statement}
+use Rattle.buffers.proofs.is_cell.Tie as tie
 
 returns : tie.Need-returns
 returns c = search (needs, picks)
