@@ -151,6 +151,7 @@ fn to_place(p: u8, way: u8) -> u8
     way
 }
 
+// How far an act reaches. One that does nothing counts with the system's list, which it leaves as it is.
 fn reach(act: Act) -> u8
     ensures { λ r. ⌜ r ≡ reachOf act ⌝ }
 {

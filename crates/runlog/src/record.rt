@@ -36,7 +36,7 @@ fn choice(log: &[u8], at: u32) -> Choice
     }
 }
 
-// The record from a place on. It stands whole in the log: no byte of it is asked for twice.
+// The record from a place on. It stands whole in the log, so no byte needs a test of its own.
 pub(crate) fn read(log: &[u8], at: u32) -> Record
     requires { ⌜ at + recordSize ≤ length (now log) ⌝ }
     ensures { λ r. ⌜ r ≡ recordAt (now (log .entry)) at ⌝ }

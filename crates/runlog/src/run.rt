@@ -52,7 +52,7 @@ impl Run {
 }
 
 // The run of so many records, from a place on. A wrong check comes before any refusal of that record.
-// The state is this function's own and changes in place: a step that took and returned it would copy it whole at each record, which costs more than the step.
+// The state is this function's own and changes in place, as far as a turn reaches: a step that took and returned it would copy it whole at each record, which costs more than the step.
 fn records(log: &[u8], at: u32, start: State, whole: u32) -> Run
     requires { ⌜ (at + recordSize * whole ≤ length (now log)) × (length (now log) ≤ maxLog) ⌝ }
     ensures { λ r. ⌜ r ≡ runOf (now (log .entry)) at start whole ⌝ }
@@ -83,6 +83,7 @@ fn records(log: &[u8], at: u32, start: State, whole: u32) -> Run
             continue;
         }
         if way == settles::MEMORY {
+            // read again: a copy kept since before the turn would be made for every record
             let held = state.memory;
             let d = settles::acted(held, c.process, act);
             if d.no != 0 {
