@@ -154,10 +154,11 @@ fn read_second(m: Memory, c: Choice, q: Process) -> Turn
 pub fn is_marking(place: u8) -> bool
     ensures { λ r. ⌜ r ≡ isMarking place ⌝ }
 {
-    if place == Process::ROW7_MARK0 {
-        return true;
+    match place {
+        Process::ROW7_MARK0 => true,
+        Process::ROW7_MARK1 => true,
+        _ => false,
     }
-    place == Process::ROW7_MARK1
 }
 
 // Where the collector goes when a mark of row 7 is over.

@@ -1,7 +1,7 @@
 // "A cell is free, or occupied": allocation, freeing, and what is asked of a free cell.
 use super::run;
 
-// "allocate free cell x (mark = memory's fA, null fields)": memory's, not the one that waits in a buffer, even the allocator's own. 10: "allocation of an occupied cell".
+// "allocate free cell x (mark = memory's fA, null fields, ..": memory's, not the one that waits in a buffer, even the allocator's own. 10: "allocation of an occupied cell".
 fn allocation() {
     run(
         b"1 allocates cell 3, looks at it, reads z, reads field 1 of cell 3, 2 allocates cell 3, 2 allocates cell 1:",

@@ -202,13 +202,12 @@ pub fn after_mark(mut q: Process) -> Process
 pub fn is_marking(place: u8) -> bool
     ensures { λ r. ⌜ r ≡ isMarking place ⌝ }
 {
-    if place == Process::STORE_MARK_OLD {
-        return true;
+    match place {
+        Process::STORE_MARK_OLD => true,
+        Process::STORE_MARK_Y => true,
+        Process::ROOTS_MARK => true,
+        _ => false,
     }
-    if place == Process::STORE_MARK_Y {
-        return true;
-    }
-    place == Process::ROOTS_MARK
 }
 
 // "for roots, mark each root, the choice x naming which remaining one at its first look": whether the step is that look.

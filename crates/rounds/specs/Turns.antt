@@ -1,7 +1,6 @@
 -- A round's steps as turns: what the collector q becomes, and the one act besides. Rounds.antt tells what they make of the whole state. Assumes nothing.
 use mathlib.Core.Bool.{Bool}
 use mathlib.Core.Path.{_≡_}
-use Prim.Native.Nat.{ℕ, _-_}
 use lib.Dec.{eqb}
 use Rattle.base.specs.Pick.{pick}
 use Rattle.cells.specs.Sets.{removeOf, fullOf}
@@ -13,16 +12,12 @@ use Rattle.state.specs.declared.Choice.{Choice}
 use Rattle.state.specs.declared.turns.Act.the-variants as act
 use Rattle.state.specs.declared.turns.Turn.{Turn}
 use Rattle.state.specs.Codes.{malformed, notOffered, fenceStage, typeStage, raiseStage, pollStage}
-use Rattle.state.specs.States.{at, leaving, processOf}
+use Rattle.state.specs.States.{at, leaving, processOf, mutatorsIn}
 use Rattle.state.specs.Choices.{isBlank, isNaming}
 use Rattle.state.specs.Turns.{stopping, going, doing}
 use Rattle.state.specs.Settles.{settledOf}
 use Rattle.rounds.specs.declared.Round.{Round}
 use Rattle.rounds.specs.Rounds.{raising, polling, roundOf}
-
--- M: memory's processes without the collector
-abbrev pub mutatorsIn : Memory → ℕ
-mutatorsIn m = m .processes - 1
 
 -- "fence"
 unfoldable pub fenceRoundTurn : Memory → Choice → Process → Turn

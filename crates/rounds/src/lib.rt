@@ -8,28 +8,18 @@ use state::Kind;
 use state::Part;
 use state::Process;
 use state::State;
+use state::mutators;
 use state::turns::Act;
 use state::turns::Turn;
 ghost use mathlib.Core.Path.{_≡_};
 ghost use Rattle.rounds.specs.Rounds.{outOfStep, allOut, advanceOf, typed, flagged, raisedOf, raising, polling};
-ghost use Rattle.rounds.specs.Turns.{mutatorsIn, fenceRoundTurn, typeRoundTurn, raiseRoundTurn, pollRoundTurn, roundTurn};
+ghost use Rattle.rounds.specs.Turns.{fenceRoundTurn, typeRoundTurn, raiseRoundTurn, pollRoundTurn, roundTurn};
 
 // A round of the collector: its type, and the place and stage that follow it.
 pub struct Round {
     pub kind: Kind,
     pub place: u8,
     pub stage: u8,
-}
-
-// M: memory's processes without the collector.
-fn mutators(m: Memory) -> u8
-    ensures { λ r. ⌜ r ≡ mutatorsIn m ⌝ }
-{
-    let n = m.processes;
-    if n == 0 {
-        return 0;
-    }
-    n - 1
 }
 
 // "fence"

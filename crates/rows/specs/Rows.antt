@@ -1,5 +1,5 @@
 -- The published model as document 01 condenses it: a row for each step of the two programs and of memory, with its guards and the state after it. Each row stands under the sentence
--- that it carries. "The state after it is that step's": `Row s c t` says that the choice c takes the state s to t. Assumes nothing.
+-- that it carries. `Row s c t` says that the choice c takes the state s to t. Assumes nothing.
 use mathlib.Core.Path.{_≡_}
 use mathlib.Core.Logic.{_⊎_}
 use mathlib.Core.Bool.{Bool, true, false, not}

@@ -66,9 +66,13 @@ listing w r q = record { place = q .place; stage = q .stage; x = q .x; f = q .f;
 abbrev pub shaking : Bool → Bool → Handshake → Process → Process
 shaking r i h q = record { place = q .place; stage = q .stage; x = q .x; f = q .f; y = q .y; old = q .old; left = q .left; cell = q .cell; look = q .look; sense = q .sense; grey = q .grey; work = q .work; roots = q .roots; part = record { raised = r; in_step = i; phase = h } }
 
+-- ---- M: memory's processes without the collector
+abbrev pub mutatorsIn : Memory → ℕ
+mutatorsIn m = m .processes - 1
+
 -- ---- the state: M; the p-th process, and nobody past the last
 abbrev pub mutatorsOf : State → ℕ
-mutatorsOf s = s .memory .processes - 1
+mutatorsOf s = mutatorsIn (s .memory)
 
 abbrev pub processOf : State → ℕ → Process
 processOf s p = getD (s .procs) p noProcess

@@ -5,7 +5,7 @@ pub mod opening;
 pub mod turns;
 
 ghost use mathlib.Core.Path.{_≡_};
-ghost use Rattle.state.specs.States.{nextOf, typeNumber, phaseNumber, noProcess, processOf, withProcess, refusedOf, takenOf, goesOf, mutatorsOf};
+ghost use Rattle.state.specs.States.{nextOf, typeNumber, phaseNumber, noProcess, processOf, withProcess, refusedOf, takenOf, goesOf, mutatorsIn, mutatorsOf};
 ghost use Rattle.state.specs.Choices.{isBlank, isNaming, isBare, isOfX};
 
 // A handshake phase: "Idle, IdleInit, InitMark, Mark, IdleMarkSweep, Idle".
@@ -327,17 +327,23 @@ impl Choice {
     }
 }
 
+// M: memory's processes without the collector.
+pub fn mutators(m: Memory) -> u8
+    ensures { λ r. ⌜ r ≡ mutatorsIn m ⌝ }
+{
+    let n = m.processes;
+    if n == 0 {
+        return 0;
+    }
+    n - 1
+}
+
 impl State {
-    // M: memory's processes without the collector.
     pub fn mutators(self) -> u8
         ensures { λ r. ⌜ r ≡ mutatorsOf self ⌝ }
     {
         let m = self.memory;
-        let n = m.processes;
-        if n == 0 {
-            return 0;
-        }
-        n - 1
+        mutators(m)
     }
 
     // The p-th process; a number past the last is nobody.

@@ -23,7 +23,7 @@ pub enum Act {
     Raises(u8),
 }
 
-// 0, the process after the step and its act; or the number of a refusal, and the process as it came. Memory may still refuse the act.
+// 0, the process after the step and its act; or the number of a refusal, and then the process and the act are of no account: the state stays as it came. Memory may still refuse the act.
 pub struct Turn {
     pub process: Process,
     pub act: Act,
