@@ -6,46 +6,17 @@
 //     P p c f v   is at the place cf, two digits, and the stage v
 //     X, Y, O, C p . . v   has the note x, y, old, cell      L, W, R p . . v   has left, list, roots, each a set as a number      U p   has its flag raised
 use super::places;
-use super::text;
 use buffers::Buffer;
 use buffers::Entry;
 use buffers::Store;
 use memory::Done;
 use memory::Memory;
+use script::Change;
+use script::number;
 use state::Handshake;
 use state::Part;
 use state::Process;
 use state::State;
-
-// One change: a letter and four digits.
-pub struct Act {
-    pub letter: u8,
-    pub p: u8,
-    pub c: u8,
-    pub f: u8,
-    pub v: u8,
-}
-
-// A change, behind its sign.
-pub(crate) fn change(s: &[u8]) -> Act {
-    Act {
-        letter: text::byte(s, 1),
-        p: text::digit(s, 2),
-        c: text::digit(s, 3),
-        f: text::digit(s, 4),
-        v: text::digit(s, 5),
-    }
-}
-
-// Two digits as a number.
-fn number(tens: u8, ones: u8) -> u8 {
-    if tens < 10 {
-        if ones < 10 {
-            return tens * 10 + ones;
-        }
-    }
-    0
-}
 
 // ---- memory
 
@@ -53,7 +24,7 @@ fn left_by(done: Done) -> Memory {
     done.memory
 }
 
-fn store(a: Act) -> Store {
+fn store(a: Change) -> Store {
     let letter = a.letter;
     match letter {
         b'w' => Store::Field {
@@ -83,7 +54,7 @@ fn full(mut m: Memory, p: usize) -> Memory {
     m
 }
 
-fn in_memory(m: Memory, a: Act) -> Memory {
+fn in_memory(m: Memory, a: Change) -> Memory {
     let letter = a.letter;
     match letter {
         b'l' => left_by(m.take_lock(a.p)),
@@ -116,7 +87,7 @@ fn set(mut q: Process, letter: u8, s: u64) -> Process {
     q
 }
 
-fn in_process(mut q: Process, a: Act) -> Process {
+fn in_process(mut q: Process, a: Change) -> Process {
     let letter = a.letter;
     match letter {
         b'P' => return places::fitting(q, number(a.c, a.f), a.v),
@@ -131,7 +102,7 @@ fn in_process(mut q: Process, a: Act) -> Process {
 }
 
 // A capital changes a process, any other letter memory.
-pub(crate) fn changed(mut s: State, a: Act) -> State {
+pub(crate) fn changed(mut s: State, a: Change) -> State {
     if a.letter <= b'Z' {
         let q = s.process(a.p);
         return s.with_process(a.p, in_process(q, a));

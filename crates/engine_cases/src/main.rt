@@ -6,8 +6,11 @@
 mod acts;
 mod places;
 mod same;
-mod text;
 
+use header::bytes::byte;
+use script::Change;
+use script::digit;
+use script::rest;
 use state::Answer;
 use state::Choice;
 use state::Process;
@@ -25,12 +28,12 @@ fn tell(n: u8) {
 // A choice, behind its sign: six digits, as a record has them: process, kind, operation, x, f, y.
 fn choice(s: &[u8]) -> Choice {
     Choice {
-        process: text::digit(s, 1),
-        kind: text::digit(s, 2),
-        op: text::digit(s, 3),
-        x: text::digit(s, 4),
-        f: text::digit(s, 5),
-        y: text::digit(s, 6),
+        process: digit(s, 1),
+        kind: digit(s, 2),
+        op: digit(s, 3),
+        x: digit(s, 4),
+        f: digit(s, 5),
+        y: digit(s, 6),
     }
 }
 
@@ -91,12 +94,12 @@ fn echo(s: &[u8]) {
 
 // How many bytes belong to the first.
 fn more(text: &[u8]) -> usize {
-    let b = text::byte(text, 0);
+    let b = byte(text, 0);
     match b {
         b'+' => 5,
         b'=' => 6,
         b'#' => 6,
-        b';' => text::rest(text),
+        b';' => rest(text),
         _ => 0,
     }
 }
@@ -104,9 +107,9 @@ fn more(text: &[u8]) -> usize {
 // What stands first in the text: + a change; = a choice, # a choice with each holder of the lock, after which the ground is as before; a semicolon, behind which is why the cases
 // below it are there; else a byte of a line.
 fn turn(s: State, text: &[u8]) -> State {
-    let b = text::byte(text, 0);
+    let b = byte(text, 0);
     match b {
-        b'+' => acts::changed(s, acts::change(text)),
+        b'+' => acts::changed(s, Change::read(text)),
         b'=' => {
             told(s, choice(text));
             ground()

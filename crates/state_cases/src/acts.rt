@@ -14,45 +14,16 @@
 //     h . . . v   has the system's list as a number
 use super::ground;
 use super::places;
-use super::text;
 use buffers::Buffer;
 use buffers::Entry;
 use buffers::Store;
 use memory::Memory;
+use script::Change;
+use script::number;
 use state::Handshake;
 use state::Part;
 use state::Process;
 use state::State;
-
-// One change: a letter and four digits.
-pub struct Act {
-    pub letter: u8,
-    pub p: u8,
-    pub c: u8,
-    pub f: u8,
-    pub v: u8,
-}
-
-// A change, behind its sign.
-pub(crate) fn change(s: &[u8]) -> Act {
-    Act {
-        letter: text::byte(s, 1),
-        p: text::digit(s, 2),
-        c: text::digit(s, 3),
-        f: text::digit(s, 4),
-        v: text::digit(s, 5),
-    }
-}
-
-// Two digits as a number.
-fn number(tens: u8, ones: u8) -> u8 {
-    if tens < 10 {
-        if ones < 10 {
-            return tens * 10 + ones;
-        }
-    }
-    0
-}
 
 // ---- processes
 
@@ -104,7 +75,7 @@ pub(crate) fn noted(mut q: Process, letter: u8, v: u8) -> Process {
     q
 }
 
-fn in_process(q: Process, a: Act) -> Process {
+fn in_process(q: Process, a: Change) -> Process {
     if a.letter == b'P' {
         return places::fitting(number(a.c, a.f), a.v);
     }
@@ -139,7 +110,7 @@ fn field(mut m: Memory, f: u8, i: usize, v: u8) -> Memory {
     m
 }
 
-fn in_cells(mut m: Memory, a: Act) -> Memory {
+fn in_cells(mut m: Memory, a: Change) -> Memory {
     let letter = a.letter;
     let n = number(a.c, a.f);
     match letter {
@@ -177,7 +148,7 @@ fn write(cell: u8, field: u8, value: u8) -> Store {
     Store::Field { cell, field, value }
 }
 
-fn in_buffer(mut b: Buffer, a: Act) -> Buffer {
+fn in_buffer(mut b: Buffer, a: Change) -> Buffer {
     let letter = a.letter;
     let i = a.f as usize;
     match letter {
@@ -191,7 +162,7 @@ fn in_buffer(mut b: Buffer, a: Act) -> Buffer {
     b
 }
 
-fn in_buffers(mut m: Memory, p: usize, a: Act) -> Memory {
+fn in_buffers(mut m: Memory, p: usize, a: Change) -> Memory {
     if p < Memory::PROCESSES {
         let b = m.buffers[p];
         m.buffers[p] = in_buffer(b, a);
@@ -199,7 +170,7 @@ fn in_buffers(mut m: Memory, p: usize, a: Act) -> Memory {
     m
 }
 
-fn in_memory(m: Memory, a: Act) -> Memory {
+fn in_memory(m: Memory, a: Change) -> Memory {
     let letter = a.letter;
     match letter {
         b'l' | b'u' | b'k' | b'd' => in_cells(m, a),
@@ -216,14 +187,14 @@ fn listed(mut s: State, cells: u64) -> State {
     s
 }
 
-fn remembered(mut s: State, a: Act) -> State {
+fn remembered(mut s: State, a: Change) -> State {
     let m = s.memory;
     s.memory = in_memory(m, a);
     s
 }
 
 // A capital changes a process.
-pub(crate) fn changed(s: State, a: Act) -> State {
+pub(crate) fn changed(s: State, a: Change) -> State {
     let letter = a.letter;
     if letter <= b'Z' {
         let q = s.process(a.p);

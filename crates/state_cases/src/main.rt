@@ -4,8 +4,10 @@
 mod acts;
 mod ground;
 mod places;
-mod text;
 
+use header::bytes::byte;
+use script::Change;
+use script::rest;
 use state::State;
 
 fn echo(s: &[u8]) {
@@ -16,9 +18,9 @@ fn echo(s: &[u8]) {
 
 // What stands first in the text: + a change; ? the answer, after which the ground is as before; a semicolon, behind which is why the cases below it are there; else a byte of a line.
 fn turn(s: State, text: &[u8]) -> State {
-    let b = text::byte(text, 0);
+    let b = byte(text, 0);
     match b {
-        b'+' => acts::changed(s, acts::change(text)),
+        b'+' => acts::changed(s, Change::read(text)),
         b'?' => {
             io::write_all(1, b" ");
             ground::answer(s);
@@ -34,10 +36,10 @@ fn turn(s: State, text: &[u8]) -> State {
 
 // How many bytes belong to the first.
 fn more(text: &[u8]) -> usize {
-    let b = text::byte(text, 0);
+    let b = byte(text, 0);
     match b {
         b'+' => 5,
-        b';' => text::rest(text),
+        b';' => rest(text),
         _ => 0,
     }
 }

@@ -2,8 +2,10 @@
 // The choices are the program's input, the file stdin beside src/, in chapters: a title, and the choices below it. A choice is six digits, as a record has them: process, kind,
 // operation, x, f, y. A refused choice is followed by the next one, on the same state.
 mod names;
-mod text;
 
+use header::bytes::byte;
+use script::digit;
+use script::rest;
 use state::Choice;
 use state::Process;
 use state::State;
@@ -32,12 +34,12 @@ fn say(text: &[u8]) {
 
 fn choice(text: &[u8]) -> Choice {
     Choice {
-        process: text::digit(text, 0),
-        kind: text::digit(text, 1),
-        op: text::digit(text, 2),
-        x: text::digit(text, 3),
-        f: text::digit(text, 4),
-        y: text::digit(text, 5),
+        process: digit(text, 0),
+        kind: digit(text, 1),
+        op: digit(text, 2),
+        x: digit(text, 3),
+        f: digit(text, 4),
+        y: digit(text, 5),
     }
 }
 
@@ -63,7 +65,7 @@ fn told(s: State, text: &[u8]) -> State {
 
 // A line that starts with # is the title of a chapter.
 fn title(text: &[u8]) {
-    let k = text::rest(text);
+    let k = rest(text);
     if k <= text.len() {
         say(&text[..k]);
         say(b"\n");
@@ -72,7 +74,7 @@ fn title(text: &[u8]) {
 
 // What stands first in the text: a title, a choice, or what is between them.
 fn turn(s: State, text: &[u8]) -> State {
-    let b = text::byte(text, 0);
+    let b = byte(text, 0);
     match b {
         b'#' => {
             title(text);
@@ -85,9 +87,9 @@ fn turn(s: State, text: &[u8]) -> State {
 
 // How many bytes belong to the first.
 fn more(text: &[u8]) -> usize {
-    let b = text::byte(text, 0);
+    let b = byte(text, 0);
     match b {
-        b'#' => text::rest(text),
+        b'#' => rest(text),
         b'0'..=b'9' => 5,
         _ => 0,
     }
