@@ -17,6 +17,7 @@ use Rattle.state.specs.declared.Hands.{Hands}
 use Rattle.state.specs.declared.State.{State}
 use Rattle.state.specs.declared.Choice.{Choice}
 use Rattle.state.specs.declared.turns.Act.the-variants as act
+use Rattle.state.specs.declared.turns.Deed.the-variants as deed
 use Rattle.state.specs.declared.turns.Turn.{Turn}
 use Rattle.state.specs.Codes.{malformed, notOffered, row1Round, row2Read, row2Write, row3Round, row4Write, row4Round, row5Phase, row5Alloc, row5Round, row6Round, row6Take, row7Read0, row7Mark0, row7Read1, row7Mark1, row7Drop, row8Round, row8Take, row9Write, row10Look, row10Free, row11Write, noStage, fenceStage}
 use Rattle.state.specs.States.{at, noting, leaving, marking, processOf}
@@ -30,7 +31,7 @@ use Rattle.collector.specs.Collectors.{taking, scanning, afterMark, drop
 
 -- "A write appends": the store, and the collector becomes t
 unfoldable pub writeTurn : Choice → Store → Process → Process → Turn
-writeTurn c v q t = pick (isBlank c) (doing (act.Writes v) t) (stopping notOffered q)
+writeTurn c v q t = pick (isBlank c) (doing (act.Does (deed.Writes v)) t) (stopping notOffered q)
 
 -- ---- row 2: "read fM, then write its opposite, which becomes the noted fM"
 unfoldable pub senseReadTurn : Memory → Choice → Process → Turn
@@ -102,7 +103,7 @@ sweepLookTurn m c q =
     (stopping notOffered q)
 
 unfoldable pub freeTurn : Choice → Process → Turn
-freeTurn c q = pick (isBlank c) (doing (act.Frees (q .x)) (sweeping q)) (stopping notOffered q)
+freeTurn c q = pick (isBlank c) (doing (act.Does (deed.Frees (q .x))) (sweeping q)) (stopping notOffered q)
 
 -- ---- row 11: "write phase Idle, row 1"
 unfoldable pub idleWriteTurn : Choice → Process → Turn

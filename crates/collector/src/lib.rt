@@ -10,6 +10,7 @@ use state::Hands;
 use state::Kind;
 use state::Process;
 use state::turns::Act;
+use state::turns::Deed;
 use state::turns::Turn;
 ghost use mathlib.Core.Path.{_≡_};
 ghost use Rattle.collector.specs.Collectors.{taking, scanning, afterMark, dropping, sweeping};
@@ -38,7 +39,7 @@ fn write(c: Choice, store: Store, q: Process, next: Process) -> Turn
     if !c.blank() {
         return Turn::stops(Answer::NOT_OFFERED, q);
     }
-    Turn::does(Act::Writes(store), next)
+    Turn::does(Act::Does(Deed::Writes(store)), next)
 }
 
 // Row 2: "then write its opposite, which becomes the noted fM"
@@ -251,7 +252,7 @@ fn free(c: Choice, q: Process) -> Turn
     if !c.blank() {
         return Turn::stops(Answer::NOT_OFFERED, q);
     }
-    Turn::does(Act::Frees(q.x), sweeping(q))
+    Turn::does(Act::Does(Deed::Frees(q.x)), sweeping(q))
 }
 
 // Row 11: "write phase Idle, row 1"

@@ -29,6 +29,7 @@ use Rattle.state.specs.declared.Choice.{Choice}
 use Rattle.state.specs.declared.Answer.{Answer}
 use Rattle.state.specs.declared.turns.Act.{Act}
 use Rattle.state.specs.declared.turns.Act.the-variants as act
+use Rattle.state.specs.declared.turns.Deed.the-variants as deed
 use Rattle.state.specs.declared.turns.Turn.{Turn}
 use Rattle.state.specs.States.{noProcess, processOf, withProcess, withMemory, withHands, refusedOf, takenOf, goesOf, actsOf}
 use Rattle.state.specs.Settles.{answeredOf, actedOf, settledOf}
@@ -38,11 +39,11 @@ use Rattle.mutator.proofs.Turns.{mutator-turn}
 use Rattle.collector.proofs.Turns.{collector-turn}
 use Rattle.rows.proofs.Lists.{put-back}
 use Rattle.engine.specs.Steps.{commitStep, ownStep, innerOf}
-use Rattle.engine.specs.Turns.{commitTurn, ownTurn, innerTurn, InnerSettles, doneOf, handedOf, shakenOf, raisesOf, toList, toMemory, toFlag, toWhole, toPlace, reachOf, wayOf, ListSettles, FlagSettles, MemorySettles, SmallWay, seatOf, seatedOf, turnedOf, turnIn}
+use Rattle.engine.specs.Turns.{commitTurn, ownTurn, innerTurn, InnerSettles, actDone, handedOf, shakenOf, raisesOf, toList, toMemory, toFlag, toWhole, toPlace, reachOf, wayOf, ListSettles, FlagSettles, MemorySettles, SmallWay, seatOf, seatedOf, turnedOf, turnIn}
 
 module _ (s : State) (c : Choice) where
   -- the process stays as it is
-  committed : settledOf s (c .process) (record { process = processOf s (c .process); act = act.Commits; no = 0 }) ≡ (let k = commitOf (s .memory) (c .process) in pick (eqb (k .no) 0) (takenOf (withMemory s (k .memory))) (refusedOf (k .no) s))
+  committed : settledOf s (c .process) (record { process = processOf s (c .process); act = act.Does deed.Commits; no = 0 }) ≡ (let k = commitOf (s .memory) (c .process) in pick (eqb (k .no) 0) (takenOf (withMemory s (k .memory))) (refusedOf (k .no) s))
   unfolding settledOf
   committed =
       let k = commitOf (s .memory) (c .process) in
@@ -65,19 +66,14 @@ inner-settles s c = search (settles, own-turn, commit-turn)
 abbrev pub afterOf : State → Memory → Act → State
 afterOf s m a = shakenOf (withHands (withMemory s m) (handedOf (s .hands) a)) a
 
-acted-parts : (s : State) (p : ℕ) (q : Process) (a : Act) → actedOf s p q a ≡ (let d = doneOf (s .memory) p a in pick (eqb (d .no) 0) (goesOf (afterOf s (d .memory) a) p q) (refusedOf (d .no) s))
+acted-parts : (s : State) (p : ℕ) (q : Process) (a : Act) → actedOf s p q a ≡ (let d = actDone (s .memory) p a in pick (eqb (d .no) 0) (goesOf (afterOf s (d .memory) a) p q) (refusedOf (d .no) s))
 acted-parts s p q act.Nothing = refl
-acted-parts s p q (act.Writes v) = refl
-acted-parts s p q act.Commits = refl
-acted-parts s p q act.Locks = refl
-acted-parts s p q act.Unlocks = refl
-acted-parts s p q (act.Allocates x) = refl
-acted-parts s p q (act.Frees x) = refl
+acted-parts s p q (act.Does d) = refl
 acted-parts s p q (act.Lists w) = refl
 acted-parts s p q (act.Types k) = refl
 acted-parts s p q (act.Raises x) = refl
 
-module _ (s : State) (p : ℕ) (t : Turn) (d : Done) (zero : t .no ≡ 0) (e : d ≡ doneOf (s .memory) p (t .act)) where
+module _ (s : State) (p : ℕ) (t : Turn) (d : Done) (zero : t .no ≡ 0) (e : d ≡ actDone (s .memory) p (t .act)) where
   parts : settledOf s p t ≡ pick (eqb (d .no) 0) (goesOf (afterOf s (d .memory) (t .act)) p (t .process)) (refusedOf (d .no) s)
   unfolding settledOf
   parts = rw (zero, e) (acted-parts s p (t .process) (t .act))
@@ -99,12 +95,7 @@ module _ (s : State) (p : ℕ) (q : Process) where
   acted-sized : (a : Act) → Sized (actedOf s p q a)
   unfolding allOut outOfStep raisedOf
   acted-sized act.Nothing = length-set (s .procs) p q
-  acted-sized (act.Writes v) = answered-sized (doneOf (s .memory) p (act.Writes v))
-  acted-sized act.Commits = answered-sized (doneOf (s .memory) p act.Commits)
-  acted-sized act.Locks = answered-sized (doneOf (s .memory) p act.Locks)
-  acted-sized act.Unlocks = answered-sized (doneOf (s .memory) p act.Unlocks)
-  acted-sized (act.Allocates x) = answered-sized (doneOf (s .memory) p (act.Allocates x))
-  acted-sized (act.Frees x) = answered-sized (doneOf (s .memory) p (act.Frees x))
+  acted-sized (act.Does d) = answered-sized (actDone (s .memory) p (act.Does d))
   acted-sized (act.Lists w) = length-set (s .procs) p q
   acted-sized (act.Types k) = simp length-set
   acted-sized (act.Raises x) = simp length-set
@@ -138,12 +129,7 @@ small p n t e h = go (eqb (t .no) 0) refl e
 -- a flag is raised at a place that there is
 raises-small : (n : ℕ) (a : Act) → reachOf a ≡ n → (n ≡ toWhole → ⊥) → raisesOf a ≤ maxMutators
 raises-small n act.Nothing e h = omega arith
-raises-small n (act.Writes v) e h = omega arith
-raises-small n act.Commits e h = omega arith
-raises-small n act.Locks e h = omega arith
-raises-small n act.Unlocks e h = omega arith
-raises-small n (act.Allocates x) e h = omega arith
-raises-small n (act.Frees x) e h = omega arith
+raises-small n (act.Does d) e h = omega arith
 raises-small n (act.Lists w) e h = omega arith
 raises-small n (act.Types k) e h = omega arith
 raises-small n (act.Raises x) e h = place x toFlag n e h .0
@@ -154,36 +140,21 @@ flag-only x n e h g = g (sym (place x toFlag n e h .1))
 
 acts-list : (s : State) (p : ℕ) (q : Process) (a : Act) → reachOf a ≡ toList → actedOf s p q a ≡ goesOf (withHands s (handedOf (s .hands) a)) p q
 acts-list s p q act.Nothing e = refl
-acts-list s p q (act.Writes v) e = absurd (omega arith)
-acts-list s p q act.Commits e = absurd (omega arith)
-acts-list s p q act.Locks e = absurd (omega arith)
-acts-list s p q act.Unlocks e = absurd (omega arith)
-acts-list s p q (act.Allocates x) e = absurd (omega arith)
-acts-list s p q (act.Frees x) e = absurd (omega arith)
+acts-list s p q (act.Does d) e = absurd (omega arith)
 acts-list s p q (act.Lists w) e = refl
 acts-list s p q (act.Types k) e = absurd (omega arith)
 acts-list s p q (act.Raises x) e = absurd (flag-only x toList e (λ h. omega arith) (λ h. omega arith))
 
-acts-memory : (s : State) (p : ℕ) (q : Process) (a : Act) → reachOf a ≡ toMemory → actedOf s p q a ≡ answeredOf s p q (doneOf (s .memory) p a)
+acts-memory : (s : State) (p : ℕ) (q : Process) (a : Act) → reachOf a ≡ toMemory → actedOf s p q a ≡ answeredOf s p q (actDone (s .memory) p a)
 acts-memory s p q act.Nothing e = absurd (omega arith)
-acts-memory s p q (act.Writes v) e = refl
-acts-memory s p q act.Commits e = refl
-acts-memory s p q act.Locks e = refl
-acts-memory s p q act.Unlocks e = refl
-acts-memory s p q (act.Allocates x) e = refl
-acts-memory s p q (act.Frees x) e = refl
+acts-memory s p q (act.Does d) e = refl
 acts-memory s p q (act.Lists w) e = absurd (omega arith)
 acts-memory s p q (act.Types k) e = absurd (omega arith)
 acts-memory s p q (act.Raises x) e = absurd (flag-only x toMemory e (λ h. omega arith) (λ h. omega arith))
 
 acts-flag : (s : State) (p : ℕ) (q : Process) (a : Act) → reachOf a ≡ toFlag → actedOf s p q a ≡ goesOf (raisedOf s (raisesOf a)) p q
 acts-flag s p q act.Nothing e = absurd (omega arith)
-acts-flag s p q (act.Writes v) e = absurd (omega arith)
-acts-flag s p q act.Commits e = absurd (omega arith)
-acts-flag s p q act.Locks e = absurd (omega arith)
-acts-flag s p q act.Unlocks e = absurd (omega arith)
-acts-flag s p q (act.Allocates x) e = absurd (omega arith)
-acts-flag s p q (act.Frees x) e = absurd (omega arith)
+acts-flag s p q (act.Does d) e = absurd (omega arith)
 acts-flag s p q (act.Lists w) e = absurd (omega arith)
 acts-flag s p q (act.Types k) e = absurd (omega arith)
 acts-flag s p q (act.Raises x) e = refl
@@ -255,7 +226,7 @@ module _ (s : State) (c : Choice) (t : Turn) (e : t ≡ turnIn s c) where
       ∙ ap (λ (p : ℕ). goesOf (raisedOf s (raisesOf (t .act))) p (t .process)) (sym (f ∙ seat-there (c .process) (h .0)))
       ∙ ap (λ (x : ℕ). goesOf (raisedOf s x) i (t .process)) (sym (g ∙ seat-there (raisesOf (t .act)) (h .1)))
 
-  module _ (d : Done) (k : d ≡ doneOf (s .memory) (c .process) (t .act)) (w : wayOf (c .process) t ≡ toMemory) where
+  module _ (d : Done) (k : d ≡ actDone (s .memory) (c .process) (t .act)) (w : wayOf (c .process) t ≡ toMemory) where
     answered-step : innerOf s c ≡ answeredOf s (c .process) (t .process) d
     answered-step = sym settled-step ∙ memory-settles s (c .process) t w ∙ ap (answeredOf s (c .process) (t .process)) (sym k)
 

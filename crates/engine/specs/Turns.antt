@@ -7,20 +7,20 @@ use Rattle.base.specs.Pick.{pick}
 use Rattle.memory.specs.declared.Memory.{Memory}
 use Rattle.memory.specs.declared.Done.{Done}
 use Rattle.memory.specs.Memories.{maxMutators, maxProcesses, taken}
-use Rattle.memory.specs.Steps.{writeOf, commitOf, lockOf, unlockOf, allocateOf, freeOf}
 use Rattle.state.specs.declared.Process.{Process}
 use Rattle.state.specs.declared.Hands.{Hands}
 use Rattle.state.specs.declared.State.{State}
 use Rattle.state.specs.declared.Choice.{Choice}
 use Rattle.state.specs.declared.turns.Act.{Act}
 use Rattle.state.specs.declared.turns.Act.the-variants as act
+use Rattle.state.specs.declared.turns.Deed.the-variants as deed
 use Rattle.state.specs.declared.turns.Turn.{Turn}
 use Rattle.state.specs.Codes.{notThere, noSuchKind, notOffered}
 use Rattle.state.specs.States.{noProcess, processOf, withHands, goesOf}
 use Rattle.state.specs.Choices.{isBlank}
 use Rattle.state.specs.Turns.{stopping, doing}
 use Rattle.state.specs.Handshakes.{allOut, typed, raisedOf}
-use Rattle.state.specs.Settles.{listed, answeredOf, settledOf}
+use Rattle.state.specs.Settles.{listed, answeredOf, doneOf, settledOf}
 use Rattle.marking.specs.Turns.{markTurn, siteTurn}
 use Rattle.mutator.specs.Mutators as mutators
 use Rattle.mutator.specs.Turns as mutator
@@ -33,7 +33,7 @@ use Rattle.engine.specs.Steps.{innerOf}
 -- ---- the turn of a record
 -- "A commit applies one's oldest store, unblocked."
 unfoldable pub commitTurn : Choice → Process → Turn
-commitTurn c q = pick (isBlank c) (doing act.Commits q) (stopping notOffered q)
+commitTurn c q = pick (isBlank c) (doing (act.Does deed.Commits) q) (stopping notOffered q)
 
 -- a step of a mark, at the places of either program: process p marks at place k; what its step offers; the process with the root that the choice names;
 -- where it goes when the mark is over
@@ -74,27 +74,17 @@ InnerSettles = (s : State) (c : Choice) → settledOf s (c .process) (turnIn s c
 
 -- ---- a turn's act, part by part
 -- memory's answer to it; an act that is not memory's leaves it as it is
-abbrev pub doneOf : Memory → ℕ → Act → Done
-doneOf m p act.Nothing = taken m
-doneOf m p (act.Writes v) = writeOf m p (record { store = v })
-doneOf m p act.Commits = commitOf m p
-doneOf m p act.Locks = lockOf m p
-doneOf m p act.Unlocks = unlockOf m p
-doneOf m p (act.Allocates x) = allocateOf m p x
-doneOf m p (act.Frees x) = freeOf m p x
-doneOf m p (act.Lists w) = taken m
-doneOf m p (act.Types k) = taken m
-doneOf m p (act.Raises x) = taken m
+abbrev pub actDone : Memory → ℕ → Act → Done
+actDone m p act.Nothing = taken m
+actDone m p (act.Does d) = doneOf m p d
+actDone m p (act.Lists w) = taken m
+actDone m p (act.Types k) = taken m
+actDone m p (act.Raises x) = taken m
 
 -- the system's part after it
 abbrev pub handedOf : Hands → Act → Hands
 handedOf h act.Nothing = h
-handedOf h (act.Writes v) = h
-handedOf h act.Commits = h
-handedOf h act.Locks = h
-handedOf h act.Unlocks = h
-handedOf h (act.Allocates x) = h
-handedOf h (act.Frees x) = h
+handedOf h (act.Does d) = h
 handedOf h (act.Lists w) = listed h w
 handedOf h (act.Types k) = typed h k
 handedOf h (act.Raises x) = h
@@ -102,12 +92,7 @@ handedOf h (act.Raises x) = h
 -- the mutators' parts after it
 abbrev pub shakenOf : State → Act → State
 shakenOf s act.Nothing = s
-shakenOf s (act.Writes v) = s
-shakenOf s act.Commits = s
-shakenOf s act.Locks = s
-shakenOf s act.Unlocks = s
-shakenOf s (act.Allocates x) = s
-shakenOf s (act.Frees x) = s
+shakenOf s (act.Does d) = s
 shakenOf s (act.Lists w) = s
 shakenOf s (act.Types k) = allOut s
 shakenOf s (act.Raises x) = raisedOf s x
@@ -115,12 +100,7 @@ shakenOf s (act.Raises x) = raisedOf s x
 -- the mutator whose flag goes up; 0 for none
 abbrev pub raisesOf : Act → ℕ
 raisesOf act.Nothing = 0
-raisesOf (act.Writes v) = 0
-raisesOf act.Commits = 0
-raisesOf act.Locks = 0
-raisesOf act.Unlocks = 0
-raisesOf (act.Allocates x) = 0
-raisesOf (act.Frees x) = 0
+raisesOf (act.Does d) = 0
 raisesOf (act.Lists w) = 0
 raisesOf (act.Types k) = 0
 raisesOf (act.Raises x) = x
@@ -144,12 +124,7 @@ toPlace p n = pick (ltb maxMutators p) toWhole n
 
 abbrev pub reachOf : Act → ℕ
 reachOf act.Nothing = toList
-reachOf (act.Writes v) = toMemory
-reachOf act.Commits = toMemory
-reachOf act.Locks = toMemory
-reachOf act.Unlocks = toMemory
-reachOf (act.Allocates x) = toMemory
-reachOf (act.Frees x) = toMemory
+reachOf (act.Does d) = toMemory
 reachOf (act.Lists w) = toList
 reachOf (act.Types k) = toWhole
 reachOf (act.Raises x) = toPlace x toFlag
@@ -167,7 +142,7 @@ FlagSettles = (s : State) (p : ℕ) (t : Turn) → wayOf p t ≡ toFlag → sett
 
 -- such a turn is as memory answers
 abbrev pub MemorySettles : Type 0
-MemorySettles = (s : State) (p : ℕ) (t : Turn) → wayOf p t ≡ toMemory → settledOf s p t ≡ answeredOf s p (t .process) (doneOf (s .memory) p (t .act))
+MemorySettles = (s : State) (p : ℕ) (t : Turn) → wayOf p t ≡ toMemory → settledOf s p t ≡ answeredOf s p (t .process) (actDone (s .memory) p (t .act))
 
 -- and its process, and a mutator that it raises, have their places in the state
 abbrev pub SmallWay : Type 0

@@ -9,6 +9,7 @@ use state::Hands;
 use state::Process;
 use state::State;
 use state::turns::Act;
+use state::turns::Deed;
 use state::turns::Turn;
 ghost use mathlib.Core.Path.{_≡_};
 ghost use Rattle.engine.specs.Steps.{innerOf, stepOf};
@@ -21,7 +22,7 @@ fn commit(c: Choice, q: Process) -> Turn
     if !c.blank() {
         return Turn::stops(Answer::NOT_OFFERED, q);
     }
-    Turn::does(Act::Commits, q)
+    Turn::does(Act::Does(Deed::Commits), q)
 }
 
 // An own step of the process: of a mark, or of its program.

@@ -8,10 +8,11 @@ use state::Hands;
 use state::Process;
 use state::State;
 use state::turns::Act;
+use state::turns::Deed;
 use state::turns::Turn;
 ghost use mathlib.Core.Path.{_≡_};
-ghost use Rattle.state.specs.Settles.{listed, settledOf};
-ghost use Rattle.engine.specs.Turns.{doneOf, handedOf, shakenOf, raisesOf, toPlace, reachOf, wayOf, seatOf, seatedOf, turnedOf};
+ghost use Rattle.state.specs.Settles.{listed, doneOf, settledOf};
+ghost use Rattle.engine.specs.Turns.{actDone, handedOf, shakenOf, raisesOf, toPlace, reachOf, wayOf, seatOf, seatedOf, turnedOf};
 
 // How far a turn reaches, besides its own process: to the system's list, to memory, to a mutator's flag, or to the whole state.
 pub const LIST: u8 = 0;
@@ -22,21 +23,30 @@ pub const FLAG: u8 = 2;
 
 pub const WHOLE: u8 = 3;
 
+// Memory's answer to a deed of process p.
+fn done(m: Memory, p: u8, deed: Deed) -> Done
+    ensures { λ r. ⌜ r ≡ doneOf m p deed ⌝ }
+{
+    match deed {
+        Deed::Writes(store) => m.write(p, Entry { store }),
+        Deed::Commits => m.commit(p),
+        Deed::Locks => m.take_lock(p),
+        Deed::Unlocks => m.leave_lock(p),
+        Deed::Allocates(x) => m.allocate(p, x),
+        Deed::Frees(x) => m.free(p, x),
+    }
+}
+
 // Memory's answer to the act of process p; an act that is not memory's leaves it as it is.
 pub fn acted(m: Memory, p: u8, act: Act) -> Done
-    ensures { λ r. ⌜ r ≡ doneOf m p act ⌝ }
+    ensures { λ r. ⌜ r ≡ actDone m p act ⌝ }
 {
     match act {
         Act::Nothing => Done {
             no: Memory::TAKEN,
             memory: m,
         },
-        Act::Writes(store) => m.write(p, Entry { store }),
-        Act::Commits => m.commit(p),
-        Act::Locks => m.take_lock(p),
-        Act::Unlocks => m.leave_lock(p),
-        Act::Allocates(x) => m.allocate(p, x),
-        Act::Frees(x) => m.free(p, x),
+        Act::Does(deed) => done(m, p, deed),
         Act::Lists(w) => Done {
             no: Memory::TAKEN,
             memory: m,
@@ -71,12 +81,7 @@ pub fn handed(h: Hands, act: Act) -> Hands
 {
     match act {
         Act::Nothing => h,
-        Act::Writes(store) => h,
-        Act::Commits => h,
-        Act::Locks => h,
-        Act::Unlocks => h,
-        Act::Allocates(x) => h,
-        Act::Frees(x) => h,
+        Act::Does(deed) => h,
         Act::Lists(w) => listed(h, w),
         Act::Types(kind) => rounds::typed(h, kind),
         Act::Raises(x) => h,
@@ -89,12 +94,7 @@ fn shaken(s: State, act: Act) -> State
 {
     match act {
         Act::Nothing => s,
-        Act::Writes(store) => s,
-        Act::Commits => s,
-        Act::Locks => s,
-        Act::Unlocks => s,
-        Act::Allocates(x) => s,
-        Act::Frees(x) => s,
+        Act::Does(deed) => s,
         Act::Lists(w) => s,
         Act::Types(kind) => rounds::all_out(s),
         Act::Raises(x) => rounds::raised(s, x),
@@ -107,12 +107,7 @@ pub fn raises(act: Act) -> u8
 {
     match act {
         Act::Nothing => 0,
-        Act::Writes(store) => 0,
-        Act::Commits => 0,
-        Act::Locks => 0,
-        Act::Unlocks => 0,
-        Act::Allocates(x) => 0,
-        Act::Frees(x) => 0,
+        Act::Does(deed) => 0,
         Act::Lists(w) => 0,
         Act::Types(kind) => 0,
         Act::Raises(x) => x,
@@ -157,12 +152,7 @@ fn reach(act: Act) -> u8
 {
     match act {
         Act::Nothing => LIST,
-        Act::Writes(store) => MEMORY,
-        Act::Commits => MEMORY,
-        Act::Locks => MEMORY,
-        Act::Unlocks => MEMORY,
-        Act::Allocates(x) => MEMORY,
-        Act::Frees(x) => MEMORY,
+        Act::Does(deed) => MEMORY,
         Act::Lists(w) => LIST,
         Act::Types(kind) => WHOLE,
         Act::Raises(x) => to_place(x, FLAG),

@@ -13,6 +13,7 @@ use Rattle.state.specs.declared.Process.{Process}
 use Rattle.state.specs.declared.State.{State}
 use Rattle.state.specs.declared.turns.Act.{Act}
 use Rattle.state.specs.declared.turns.Act.the-variants as act
+use Rattle.state.specs.declared.turns.Deed.the-variants as deed
 use Rattle.state.specs.declared.turns.Turn.{Turn}
 use Rattle.state.specs.Codes.{lookStage, senseStage, phaseStage, lockStage, againStage, writeStage, unlockStage, malformed}
 use Rattle.state.specs.States.{at, marking, listing}
@@ -54,7 +55,7 @@ phaseTurn m p q =
 
 -- "lock"
 unfoldable pub lockTurn : Process → Marked
-lockTurn q = onTurn act.Locks (at (q .place) againStage q)
+lockTurn q = onTurn (act.Does deed.Locks) (at (q .place) againStage q)
 
 -- "look again; if the two looks agree, .."
 unfoldable pub againTurn : Memory → ℕ → Process → Marked
@@ -67,11 +68,11 @@ againTurn m p q =
 -- ".. write mark := noted fM (r is now being greyed)"
 unfoldable pub writeTurn : Process → Marked
 writeTurn q =
-    onTurn (act.Writes (store.Mark (markedCell q) (q .sense))) (at (q .place) unlockStage (marking (q .cell) (q .look) (q .sense) (markedCell q) q))
+    onTurn (act.Does (deed.Writes (store.Mark (markedCell q) (q .sense)))) (at (q .place) unlockStage (marking (q .cell) (q .look) (q .sense) (markedCell q) q))
 
 -- "unlock. The unlock also puts a winner's r on its list and ends its greying."
 unfoldable pub unlockTurn : ℕ → Process → Marked
-unlockTurn p q = endTurn act.Unlocks p (listing (addOf (q .work) (q .grey)) (q .roots) q)
+unlockTurn p q = endTurn (act.Does deed.Unlocks) p (listing (addOf (q .work) (q .grey)) (q .roots) q)
 
 -- the turn at the stage of a mark; a stage that is none is malformed
 unfoldable pub markTurn : Memory → ℕ → Process → Marked

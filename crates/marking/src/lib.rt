@@ -6,6 +6,7 @@ use memory::Memory;
 use state::Answer;
 use state::Process;
 use state::turns::Act;
+use state::turns::Deed;
 ghost use mathlib.Core.Path.{_≡_};
 ghost use Rattle.marking.specs.Marks.{markedCell, overOf, isIdle};
 ghost use Rattle.marking.specs.Turns.{onTurn, endTurn, stopTurn, lookTurn, senseTurn, phaseTurn, lockTurn, againTurn, writeTurn, unlockTurn, markTurn};
@@ -146,7 +147,7 @@ fn lock(mut q: Process) -> Marked
     ensures { λ r. ⌜ r ≡ lockTurn q ⌝ }
 {
     q.stage = Process::AGAIN;
-    Marked::on(Act::Locks, q)
+    Marked::on(Act::Does(Deed::Locks), q)
 }
 
 // "look again; if the two looks agree, write"
@@ -173,7 +174,7 @@ fn write(mut q: Process) -> Marked
     let store = Store::Mark { cell, bit: q.sense };
     q.stage = Process::UNLOCK;
     q.grey = cell;
-    Marked::on(Act::Writes(store), q)
+    Marked::on(Act::Does(Deed::Writes(store)), q)
 }
 
 // "unlock": it "also puts a winner's r on its list and ends its greying".
@@ -181,7 +182,7 @@ fn unlock(p: u8, mut q: Process) -> Marked
     ensures { λ r. ⌜ r ≡ unlockTurn p q ⌝ }
 {
     q.work = cells::add(q.work, q.grey);
-    Marked::end(Act::Unlocks, p, q)
+    Marked::end(Act::Does(Deed::Unlocks), p, q)
 }
 
 // The step at the stage of a mark. A stage that is none is malformed.

@@ -17,6 +17,7 @@ use Rattle.state.specs.declared.Hands.{Hands}
 use Rattle.state.specs.declared.State.{State}
 use Rattle.state.specs.declared.Choice.{Choice}
 use Rattle.state.specs.declared.turns.Act.the-variants as act
+use Rattle.state.specs.declared.turns.Deed.the-variants as deed
 use Rattle.state.specs.declared.turns.Turn.{Turn}
 use Rattle.state.specs.Codes.{malformed, notOffered, flagDown, top, storeMarkOld, storeMarkY, storeWrite, noopFence, noopFinish, rootsFence, rootsMark, rootsFinish, workFence, workFinish, lookStage}
 use Rattle.state.specs.States.{nextOf, at, noting, leaving, marking, listing}
@@ -30,7 +31,7 @@ use Rattle.mutator.specs.Mutators.{isStore, storing, answerPlace, afterM
 unfoldable pub allocateTurn : Memory → Choice → Process → Turn
 allocateTurn m c q =
     pick (isOfX c)
-    (pick (isCellOf (m .cells) (c .x)) (doing (act.Allocates (c .x)) (listing (q .work) (addOf (q .roots) (c .x)) q)) (stopping notOffered q))
+    (pick (isCellOf (m .cells) (c .x)) (doing (act.Does (deed.Allocates (c .x))) (listing (q .work) (addOf (q .roots) (c .x)) q)) (stopping notOffered q))
     (stopping notOffered q)
 
 -- "1 drop root x"
@@ -105,7 +106,7 @@ markSiteTurn m c q = pick (isMark c q) (siteTurn afterMark (markTurn m (c .proce
 -- "write the field, clearing the honorary root"
 unfoldable pub storeWriteTurn : Choice → Process → Turn
 storeWriteTurn c q =
-    pick (isBlank c) (doing (act.Writes (store.Field (q .x) (q .f) (q .y))) (at top (q .stage) (noting 0 0 0 0 q))) (stopping notOffered q)
+    pick (isBlank c) (doing (act.Does (deed.Writes (store.Field (q .x) (q .f) (q .y)))) (at top (q .stage) (noting 0 0 0 0 q))) (stopping notOffered q)
 
 -- ---- "Answer: read the type; fence": then for roots to the first root if there is one, else to the last step
 unfoldable pub answerFenceTurn : Memory → Choice → Process → Turn

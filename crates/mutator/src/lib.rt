@@ -11,6 +11,7 @@ use state::Kind;
 use state::Part;
 use state::Process;
 use state::turns::Act;
+use state::turns::Deed;
 use state::turns::Turn;
 ghost use mathlib.Core.Path.{_≡_};
 ghost use Rattle.mutator.specs.Mutators.{isStore, storing, answerPlace, afterMark, pastFence, stepping};
@@ -28,7 +29,7 @@ fn allocate(m: Memory, c: Choice, mut q: Process) -> Turn
         return Turn::stops(Answer::NOT_OFFERED, q);
     }
     q.roots = cells::add(q.roots, c.x);
-    Turn::does(Act::Allocates(c.x), q)
+    Turn::does(Act::Does(Deed::Allocates(c.x)), q)
 }
 
 // "1 drop root x"
@@ -259,7 +260,7 @@ fn write(c: Choice, mut q: Process) -> Turn
     q.f = 0;
     q.y = 0;
     q.old = 0;
-    Turn::does(Act::Writes(store), q)
+    Turn::does(Act::Does(Deed::Writes(store)), q)
 }
 
 // Past an answer's fence: for roots to the first root if there is one, else to the last step.

@@ -5,9 +5,8 @@ use buffers::Store;
 ghost use mathlib.Core.Path.{_≡_};
 ghost use Rattle.state.specs.Turns.{stopping, going, doing};
 
-// What a step does besides changing its own process: nothing; something to memory; something to the system's part in the handshakes or to the mutators' parts.
-pub enum Act {
-    Nothing,
+// What a step does to memory.
+pub enum Deed {
     Writes(Store),
     // one's oldest store is applied
     Commits,
@@ -15,6 +14,12 @@ pub enum Act {
     Unlocks,
     Allocates(u8),
     Frees(u8),
+}
+
+// What a step does besides changing its own process: nothing; a deed in memory; something to the system's part in the handshakes or to the mutators' parts.
+pub enum Act {
+    Nothing,
+    Does(Deed),
     // the system's work list becomes this one
     Lists(u64),
     // "set type (all in-step bits off; ..)"
