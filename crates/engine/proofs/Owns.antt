@@ -4,7 +4,6 @@
 use mathlib.Core.Bool.{Bool, true, false}
 use mathlib.Core.Path.{_≡_, refl}
 use lib.Dec.{eqb}
-use Rattle.base.specs.Pick.{pick}
 use Rattle.memory.specs.declared.Memory.{Memory}
 use Rattle.state.specs.declared.Process.{Process}
 use Rattle.state.specs.declared.Hands.{Hands}

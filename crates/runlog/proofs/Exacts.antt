@@ -27,13 +27,12 @@ use Rattle.header.specs.Header.{sizeOf, heapOf, admittedOf}
 use Rattle.header.specs.Admitted.{Admitted}
 use Rattle.header.proofs.Agrees.{admitted-clauses, clauses-admitted}
 use Rattle.runlog.specs.declared.Outcome.{Outcome}
-use Rattle.runlog.specs.declared.record.Record.{Record}
 use Rattle.runlog.specs.declared.run.Run.{Run}
 use Rattle.runlog.specs.Records.{checkOf}
-use Rattle.runlog.specs.Runs.{endedOf, wrongCheck, fewLeft, stoppedOf, tookOf, answeredOf, turnedOf, onwardOf, closedOf, wholeOf, leftOf, playedOf, outcomeOf, notOpened, judgeIf, judgeOf}
+use Rattle.runlog.specs.Runs.{endedOf, wrongCheck, fewLeft, stoppedOf, answeredOf, turnedOf, onwardOf, closedOf, wholeOf, leftOf, playedOf, outcomeOf, notOpened, judgeIf, judgeOf}
 use Rattle.runlog.specs.Rule.{recordOf, Whole, RightCheck, Taken, none, more, Stops, ended, short, wrong, refused, RunTo, Judges, shut, runs}
 use Rattle.runlog.specs.Statements.{RunKeeps, OutcomeExactly, NotAdmitted, NumbersOfRun, afterOf, ranOf}
-use Rattle.runlog.proofs.Turns.{onward-goes, onward-stays, run-stays}
+use Rattle.runlog.proofs.Turns.{onward-goes, onward-stays, turn-wrong, turn-right, answered-taken, answered-refused, run-stays}
 use Rattle.runlog.proofs.Formed.{turn-whole, after-formed, ran-formed}
 
 module _ (P : State → Type 0) (f : (s t : State) (c : Choice) → P s → stepOf s c ≡ takenOf t → P t) (log : List ℕ) (o : P (openingOf (heapOf log))) where
@@ -44,19 +43,7 @@ module _ (P : State → Type 0) (f : (s t : State) (c : Choice) → P s → step
 pub run-keeps : RunKeeps
 run-keeps P f log k s o p = keeps P f log o p
 
--- ---- a turn, by what it finds
-turn-wrong : (run : Run) (r : Record) (a : Answer) → (RightCheck r → ⊥) → turnedOf run r a ≡ stoppedOf wrongCheck run
-turn-wrong run r a n = rw (ne-eqb (r .check) (checkOf (r .choice)) n) refl
-
-turn-right : (run : Run) (r : Record) (a : Answer) → RightCheck r → turnedOf run r a ≡ answeredOf run a
-turn-right run r a e = rw (eq-eqb (r .check) (checkOf (r .choice)) e) refl
-
-answered-taken : (run : Run) (a : Answer) → a .no ≡ 0 → answeredOf run a ≡ tookOf run (a .state)
-answered-taken run a e = rw (eq-eqb (a .no) 0 e) refl
-
-answered-refused : (run : Run) (a : Answer) → (a .no ≡ 0 → ⊥) → answeredOf run a ≡ stoppedOf (a .no) run
-answered-refused run a n = rw (ne-eqb (a .no) 0 n) refl
-
+-- ---- a run's end
 pub closed-stays : (run : Run) (l : ℕ) → (run .stop ≡ 0 → ⊥) → closedOf run l ≡ run
 unfolding closedOf
 closed-stays run l n = rw (ne-eqb (run .stop) 0 n) refl

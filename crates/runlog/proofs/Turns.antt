@@ -1,6 +1,7 @@
 -- A run, record by record: what its loop knows turn by turn. Assumes nothing.
 --     onward-goes, onward-stays      a run goes on while it has no stop
---     turn-wrong, -taken, -stops     what a turn comes to
+--     turn-wrong, turn-right         what a turn comes to, by the check
+--     answered-taken, -refused       and by what the step answers
 --     run-more                       one record more
 --     run-stays                      a run that has stopped stays as it is, however many records follow
 --     wrong-halts, refused-halts     the loop leaves with such a run
@@ -14,12 +15,14 @@ use native.Mathlib.Decide.{ℕ-discrete}
 use native.Mathlib.Omega.{arith}
 use borrow.Author.Tests.{eq-eqb, ne-eqb}
 use Rattle.state.specs.declared.State.{State}
+use Rattle.state.specs.declared.Answer.{Answer}
 use Rattle.state.specs.States.{takenOf}
 use Rattle.engine.specs.Steps.{innerOf}
 use Rattle.runlog.specs.declared.record.Record.{Record}
 use Rattle.runlog.specs.declared.run.Run.{Run}
 use Rattle.runlog.specs.Records.{recordSize, recordAt, checkOf}
-use Rattle.runlog.specs.Runs.{wrongCheck, endedOf, stoppedOf, tookOf, turnOf, onwardIf, onwardOf, runOf}
+use Rattle.runlog.specs.Runs.{wrongCheck, endedOf, stoppedOf, tookOf, answeredOf, turnedOf, turnOf, onwardIf, onwardOf, runOf}
+use Rattle.runlog.specs.Rule.{RightCheck}
 
 pub onward-goes : (run : Run) (r : Record) → run .stop ≡ 0 → onwardOf run r ≡ turnOf run r
 unfolding onwardOf
@@ -29,18 +32,18 @@ pub onward-stays : (run : Run) (r : Record) → (run .stop ≡ 0 → ⊥) → on
 unfolding onwardOf
 onward-stays run r n = ap (λ (b : Bool). onwardIf b run r) (ne-eqb (run .stop) 0 n)
 
--- what its turn comes to, by what the step answers
-pub turn-wrong : (run : Run) (r : Record) → (r .check ≡ checkOf (r .choice) → ⊥) → turnOf run r ≡ stoppedOf wrongCheck run
-unfolding turnOf
-turn-wrong run r h = rw (ne-eqb (r .check) (checkOf (r .choice)) h) refl
+-- what its turn comes to, by the check, and by what the step answers
+pub turn-wrong : (run : Run) (r : Record) (a : Answer) → (RightCheck r → ⊥) → turnedOf run r a ≡ stoppedOf wrongCheck run
+turn-wrong run r a n = rw (ne-eqb (r .check) (checkOf (r .choice)) n) refl
 
-pub turn-taken : (run : Run) (r : Record) (t : State) → r .check ≡ checkOf (r .choice) → innerOf (run .state) (r .choice) ≡ takenOf t → turnOf run r ≡ tookOf run t
-unfolding turnOf
-turn-taken run r t h e = rw (eq-eqb (r .check) (checkOf (r .choice)) h, e) refl
+pub turn-right : (run : Run) (r : Record) (a : Answer) → RightCheck r → turnedOf run r a ≡ answeredOf run a
+turn-right run r a e = rw (eq-eqb (r .check) (checkOf (r .choice)) e) refl
 
-pub turn-stops : (run : Run) (r : Record) (n : ℕ) → r .check ≡ checkOf (r .choice) → innerOf (run .state) (r .choice) .no ≡ n → (n ≡ 0 → ⊥) → turnOf run r ≡ stoppedOf n run
-unfolding turnOf
-turn-stops run r n h e z = rw (eq-eqb (r .check) (checkOf (r .choice)) h, e, ne-eqb n 0 z) refl
+pub answered-taken : (run : Run) (a : Answer) → a .no ≡ 0 → answeredOf run a ≡ tookOf run (a .state)
+answered-taken run a e = rw (eq-eqb (a .no) 0 e) refl
+
+pub answered-refused : (run : Run) (a : Answer) → (a .no ≡ 0 → ⊥) → answeredOf run a ≡ stoppedOf (a .no) run
+answered-refused run a n = rw (ne-eqb (a .no) 0 n) refl
 
 module _ (log : List ℕ) (at : ℕ) (s : State) where
   pub run-more : (run q : Run) (k : ℕ) → run ≡ runOf log at s k → run .stop ≡ 0 → q ≡ turnOf run (recordAt log (at + recordSize * k)) → q ≡ runOf log at s (k + 1)
@@ -70,14 +73,22 @@ module _ (log : List ℕ) (at : ℕ) (s : State) where
         let q : Run = endedOf t k m in
         run-stays q n (k + 1) (run-more run q k o refl (sym h ∙ ap (turnOf run) e)) z (omega arith)
 
-    pub wrong-halts : (r .check ≡ checkOf (r .choice) → ⊥) → endedOf t k wrongCheck ≡ runOf log at s n
-    wrong-halts h = halted wrongCheck (λ z. omega arith) (turn-wrong (endedOf t k 0) r h)
+    pub wrong-halts : (RightCheck r → ⊥) → endedOf t k wrongCheck ≡ runOf log at s n
+    unfolding turnOf
+    wrong-halts h = halted wrongCheck (λ z. omega arith) (turn-wrong (endedOf t k 0) r (innerOf t (r .choice)) h)
 
-    module _ (right : r .check ≡ checkOf (r .choice)) where
+    module _ (right : RightCheck r) where
       pub refused-halts : (m : ℕ) → innerOf t (r .choice) .no ≡ m → (m ≡ 0 → ⊥) → endedOf t k m ≡ runOf log at s n
-      refused-halts m f z = halted m z (turn-stops (endedOf t k 0) r m right f z)
+      unfolding turnOf
+      refused-halts m f z =
+          let run : Run = endedOf t k 0 in
+          let a = innerOf t (r .choice) in
+          halted m z (turn-right run r a right ∙ answered-refused run a (λ y. z (sym f ∙ y)) ∙ ap (λ (i : ℕ). stoppedOf i run) f)
 
       pub taken-goes : (u : State) → innerOf t (r .choice) ≡ takenOf u → Ongoing u (k + 1)
+      unfolding turnOf
       taken-goes u f =
           let run : Run = endedOf t k 0 in
-          run-more run (endedOf u (k + 1) 0) k o refl (sym (turn-taken run r u right f) ∙ ap (turnOf run) e)
+          let a = innerOf t (r .choice) in
+          let h = turn-right run r a right ∙ answered-taken run a (ap (λ (x : Answer). x .no) f) ∙ ap (λ (x : Answer). tookOf run (x .state)) f in
+          run-more run (endedOf u (k + 1) 0) k o refl (sym h ∙ ap (turnOf run) e)

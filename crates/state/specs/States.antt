@@ -1,7 +1,6 @@
 -- The state read and changed. antt has no update of a record: here is one setter for each field or group of fields. Assumes nothing.
-use mathlib.Core.Bool.{Bool, true, false}
+use mathlib.Core.Bool.{Bool, false}
 use Prim.Native.Nat.{ℕ, _-_}
-use mathlib.Core.List.{List}
 use lib.ListN.{getD, set}
 use Rattle.memory.specs.declared.Memory.{Memory}
 use Rattle.state.specs.declared.Handshake.{Handshake}
