@@ -1,5 +1,4 @@
 -- A buffer as the list of its pending entries, oldest first. Assumes nothing.
---     Sized                        the array has its length, and no more is pending than fits
 --     pending-length               as many are pending as `len` says
 --     pending-none                 none is pending exactly if `len` is 0
 --     push-room, push-full         a push is taken exactly while fewer than `maxStores` are pending, refused exactly if `maxStores` are
@@ -23,10 +22,7 @@ use Rattle.buffers.specs.declared.Entry.{Entry}
 use Rattle.buffers.specs.declared.Pushed.{Pushed}
 use Rattle.buffers.specs.Stores.{noEntry}
 use Rattle.buffers.specs.Buffers.{maxStores, emptyBuffer, pendingOf, pushOf, popOf}
-
-pub record Sized (b : Buffer) : Type 0 where
-  pub entries : length (b .entries) ≡ maxStores
-  pub len : b .len ≤ maxStores
+pub use Rattle.buffers.specs.Sizes.{Sized}
 
 pub pending-length : (b : Buffer) → Sized b → length (pendingOf b) ≡ b .len
 pending-length b z = length-take-le (b .len) (b .entries) (omega arith)

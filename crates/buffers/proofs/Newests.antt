@@ -3,6 +3,7 @@
 --     newest-first          of a list with one entry more in front, over what stands below the list: that one stands below the others
 --     newest-behind         an entry in front of a hit is not seen
 --     newest-miss           nor is one that does not hit
+--     newest-among          of a list with a hit in it and none after: that one
 --     newest-none           nothing is found exactly if nothing hits
 --     Found, newest-member  what is found is a store of the list that hits the spot
 --     newest-spot           so a store found, else one for the spot, is one for the spot
@@ -62,6 +63,10 @@ newest-behind at e l s h = newest-over at e l ∙ rw h
 
 pub newest-miss : (at : Spot) (e : Entry) (l : List Entry) → hitsOf at (e .store) ≡ false → newestOf at (e ∷ l) ≡ newestOf at l
 newest-miss at e l h = rw h
+
+pub newest-among : (at : Spot) (older newer : List Entry) (e : Entry) (other : Store) → hitsOf at (e .store) ≡ true → newestOf at newer ≡ Nothing → storeOrOf (newestOf at (older ++ (e ∷ newer))) other ≡ e .store
+newest-among at [] newer e other h k = newest-first at e newer other ∙ rw (k, h)
+newest-among at (x ∷ older) newer e other h k = newest-first at x (older ++ (e ∷ newer)) other ∙ newest-among at older newer e (pick (hitsOf at (x .store)) (x .store) other) h k
 
 none-over : (a b : Newest) → over a b ≡ Nothing → (a ≡ Nothing) × (b ≡ Nothing)
 none-over Nothing b h = (refl, h)

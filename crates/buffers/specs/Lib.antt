@@ -1,3 +1,4 @@
 pub mod Stores
 pub mod Buffers
 pub mod Fits
+pub mod Sizes

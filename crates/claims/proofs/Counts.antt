@@ -37,12 +37,13 @@ use Rattle.kept.proofs.Collector.{round-place}
 use Rattle.kept.proofs.Leaves.{row-counts, row-others}
 use Rattle.engine.specs.Steps.{stepOf}
 use Rattle.engine.proofs.Theorems.{answered}
+use Rattle.claims.specs.Posted.{busyOf}
 use Rattle.claims.specs.Answering.{answerPlaces}
 use Rattle.claims.specs.Handshakes.{Handshakes}
 use Rattle.claims.specs.Inv.{Inv}
 use Rattle.claims.specs.Runs.{runOf}
 use Rattle.claims.specs.Counts.{typesAt, finishPlaces, setsType, finishesAnswer, onceOf, timesOf, behindBy, roundsBehind, RunBehind}
-use Rattle.claims.proofs.Posted.{busyOf, mark-part}
+use Rattle.claims.proofs.Posted.{mark-part}
 use Rattle.claims.proofs.Flags.{settled}
 use Rattle.claims.proofs.Inv.{opening-inv, step-inv}
 use Rattle.claims.proofs.Runs.{taken-row, step-keeps}

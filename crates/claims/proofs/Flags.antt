@@ -19,8 +19,9 @@ use Rattle.state.specs.declared.Part.{Part}
 use Rattle.state.specs.declared.Process.{Process}
 use Rattle.state.specs.Codes.{raiseStage, pollStage}
 use Rattle.fits.specs.Fits.{Among, roundPlaces}
+use Rattle.claims.specs.Posted.{busyOf}
 use Rattle.claims.specs.Flags.{Due, Awaited, Flagged}
-use Rattle.claims.proofs.Posted.{busyOf, Rests}
+use Rattle.claims.proofs.Posted.{Rests}
 
 -- ---- no round raises or polls
 module _ (o : Process) (m : ℕ) (e : busyOf (o .place) (o .stage) ≡ false) where

@@ -7,10 +7,10 @@
 --     step-handshakes        every row
 --     settled-handshakes     where no round raises or polls every mutator is in step, with its flag down and the system's phase
 --     opening-handshakes     the opening
-use mathlib.Core.Path.{_≡_, refl, sym, _∙_}
+use mathlib.Core.Path.{_≡_, refl, sym, subst, _∙_}
 use mathlib.Core.Bool.{Bool, true, false, false≢true}
 use mathlib.Core.List.{List}
-use mathlib.Core.Logic.{_⊎_, inl, inr}
+use mathlib.Core.Logic.{inl}
 use Prim.Native.Nat.{ℕ, _-_, _≤_, _<_}
 use native.Mathlib.Decide.{ℕ-discrete}
 use native.Mathlib.Omega.{arith}
@@ -32,7 +32,7 @@ use Rattle.state.specs.declared.Process.{Process}
 use Rattle.state.specs.declared.State.{State}
 use Rattle.state.specs.declared.Choice.{Choice}
 use Rattle.state.specs.declared.opening.Heap.{Heap}
-use Rattle.state.specs.Codes.{top, storeMarkOld, storeMarkY, storeWrite, noopFence, noopFinish, rootsFence, rootsMark, rootsFinish, workFence, workFinish, row6Take, row8Take, noStage, fenceStage, typeStage, raiseStage, pollStage}
+use Rattle.state.specs.Codes.{top, storeMarkOld, storeMarkY, storeWrite, noopFence, noopFinish, rootsFence, rootsMark, rootsFinish, workFence, workFinish, noStage, fenceStage, typeStage, raiseStage, pollStage}
 use Rattle.state.specs.States.{noProcess, nextOf, at, leaving, mutatorsOf, processOf, withProcess}
 use Rattle.state.specs.Openings.{openMemory, openCollector, openMutator, openProcess, openHands, rootsAt, openingOf}
 use Rattle.fits.specs.Fits.{Among, roundPlaces, WellFormed, HeapFits}
@@ -45,11 +45,11 @@ use Rattle.fits.proofs.Gives.{shakes, round-at, collector-within}
 use Rattle.kept.proofs.Collector.{round-place}
 use Rattle.kept.proofs.Leaves.{row-counts}
 use Rattle.verdict.specs.Table.{InTable}
-use Rattle.claims.specs.Posted.{postedOf}
+use Rattle.claims.specs.Posted.{postedOf, busyOf}
 use Rattle.claims.specs.Flags.{Due, Flagged}
 use Rattle.claims.specs.Answering.{answerPlaces, Answers}
 use Rattle.claims.specs.Handshakes.{Handshakes}
-use Rattle.claims.proofs.Posted.{busyOf, Rests, at-posted, rest, round-posts, round-ends, mark-seat, mark-part, scan-rests}
+use Rattle.claims.proofs.Posted.{Tells, Told, at-told, Rests, rest, take-rests, round-posts, round-ends, mark-seat, mark-part, scan-rests}
 use Rattle.claims.proofs.Table.{set-line, same-phase, noop-line, roots-line, work-line}
 use Rattle.claims.proofs.Flags.{not-due, settled, rests-flags, set-flags, shaken-flags, raise-flags, raised-flags, last-flags, last-raised, poll-flags, over-flags}
 use Rattle.claims.proofs.Answering.{Passes, passes, seat-passes, branch-answers, top-answers}
@@ -62,20 +62,21 @@ record Stands (k : Kind) (h : Handshake) (o : Process) (m : ℕ) (q : Process) :
   pub answers : Answers k q
 
 record Whole (n : ℕ) (k : Kind) (h : Handshake) (qs : List Process) : Type 0 where
-  pub posted : h ≡ postedOf (getD qs 0 noProcess .place) (getD qs 0 noProcess .stage)
+  pub told : Told k h (getD qs 0 noProcess)
   pub each : (m : ℕ) → 0 < m → m ≤ n → Stands k h (getD qs 0 noProcess) m (getD qs m noProcess)
 
 to-whole : (s : State) → Handshakes s → Whole (mutatorsOf s) (s .hands .kind) (s .hands .phase) (s .procs)
 to-whole s w =
     record {
-      posted = w .posted;
+      told = (w .posted, w .typed);
       each = λ m a b. record { line = w .table m a b .line; low = w .table m a b .flag; flags = w .flags m a b; answers = w .answering m a b };
     }
 
 of-whole : (s : State) → Whole (mutatorsOf s) (s .hands .kind) (s .hands .phase) (s .procs) → Handshakes s
 of-whole s w =
     record {
-      posted = w .posted;
+      posted = w .told .0;
+      typed = w .told .1;
       table = λ m a b. record { line = w .each m a b .line; flag = w .each m a b .low };
       flags = λ m a b. w .each m a b .flags;
       answering = λ m a b. w .each m a b .answers;
@@ -120,24 +121,24 @@ early i r e = rw (round-place r, e) refl
 
 module _ (s : State) (w : WellFormed s) where
   -- ---- one process replaced
-  collector-moved : {k : Kind} {h : Handshake} (t : Process) → h ≡ postedOf (t .place) (t .stage) →
+  collector-moved : {k : Kind} {h : Handshake} (t : Process) → Told k h t →
       ((m : ℕ) → 0 < m → m ≤ mutatorsOf s → Flagged (processOf s 0) m (processOf s m .part) → Flagged t m (processOf s m .part)) →
       Whole (mutatorsOf s) k h (s .procs) → Whole (mutatorsOf s) k h (set (s .procs) 0 t)
   collector-moved t e f v =
       record {
-        posted = rw (replaced s w 0 t (omega arith)) e;
+        told = rw (replaced s w 0 t (omega arith)) e;
         each = λ m a b. rw (replaced s w 0 t (omega arith), process-other s 0 m t (λ i. omega arith))
             (record { line = v .each m a b .line; low = v .each m a b .low; flags = f m a b (v .each m a b .flags); answers = v .each m a b .answers });
       }
 
   rests : {k : Kind} {h : Handshake} (t : Process) → Rests (processOf s 0) t → Whole (mutatorsOf s) k h (s .procs) → Whole (mutatorsOf s) k h (set (s .procs) 0 t)
-  rests t r v = collector-moved t (v .posted ∙ sym (r .posted)) (λ m a b. rests-flags r) v
+  rests {k} {h} t r v = collector-moved t (r .told k h (v .told)) (λ m a b. rests-flags r) v
 
   mutator-moved : {k : Kind} {h : Handshake} (p : ℕ) → 0 < p → p ≤ mutatorsOf s → (t : Process) → (Stands k h (processOf s 0) p (processOf s p) → Stands k h (processOf s 0) p t) →
       Whole (mutatorsOf s) k h (s .procs) → Whole (mutatorsOf s) k h (set (s .procs) p t)
   mutator-moved {k} {h} p pos mine t f v =
       record {
-        posted = rw (process-other s p 0 t (λ i. omega arith)) (v .posted);
+        told = rw (process-other s p 0 t (λ i. omega arith)) (v .told);
         each = λ m a b. rw (process-other s p 0 t (λ i. omega arith)) (go m a b (ℕ-discrete m p));
       }
     where
@@ -157,11 +158,11 @@ module _ (s : State) (w : WellFormed s) where
       let new : Process = at k raiseStage (leaving (fullOf (mutatorsOf s)) (processOf s 0)) in
       let off : State = withProcesses s (allOff (s .procs)) in
       let here = replaced off (off-framed s w) 0 new (omega arith) in
-      let e : h ≡ postedOf k typeStage = v .posted ∙ at-posted p in
+      let e : h ≡ postedOf k typeStage = subst (Tells i h) (at-told p) (v .told) .0 in
       let g : Advance t (postedOf k typeStage) a = rw e at d in
       let b : busyOf (processOf s 0 .place) (processOf s 0 .stage) ≡ false = rw (p .place, p .stage) (early typeStage r refl) in
       record {
-        posted = rw here (round-posts r g);
+        told = rw here (round-posts r g);
         each = λ m x y. rw (here, process-other off 0 m new (λ i. omega arith), off-process s m x)
             (let z = v .each m x y in
             let f = settled (processOf s 0) m b (z .flags) in
@@ -174,12 +175,12 @@ module _ (s : State) (w : WellFormed s) where
       }
 
   -- the flag of x is raised
-  raise-moved : {k : Kind} {h : Handshake} (x : ℕ) → 0 < x → x ≤ mutatorsOf s → (t : Process) → h ≡ postedOf (t .place) (t .stage) → Due (processOf s 0) x →
+  raise-moved : {k : Kind} {h : Handshake} (x : ℕ) → 0 < x → x ≤ mutatorsOf s → (t : Process) → Told k h t → Due (processOf s 0) x →
       ((m : ℕ) → 0 < m → m ≤ mutatorsOf s → (m ≡ x → ⊥) → Flagged (processOf s 0) m (processOf s m .part) → Flagged t m (processOf s m .part)) → Flagged t x (flagged (processOf s x) .part) →
       Whole (mutatorsOf s) k h (s .procs) → Whole (mutatorsOf s) k h (set (set (s .procs) x (flagged (processOf s x))) 0 t)
   raise-moved {k} {h} x pos mine t e d f g v =
       record {
-        posted = rw here e;
+        told = rw here e;
         each = λ m a b. rw (here, process-other up 0 m t (λ i. omega arith)) (go m a b (ℕ-discrete m x));
       }
     where
@@ -210,11 +211,6 @@ module _ (s : State) (w : WellFormed s) where
     rounds : {k j l i : ℕ} {t : Kind} → Round k t j l → At k i (processOf s 0) → Among (processOf s 0 .place) roundPlaces
     rounds r a = rw (a .place) (round-place r)
 
-    took : {k : Kind} {h : Handshake} (t : Process) → (At row6Take noStage (processOf s 0)) ⊎ (At row8Take noStage (processOf s 0)) → postedOf (t .place) (t .stage) ≡ hand.IdleMarkSweep →
-        busyOf (t .place) (t .stage) ≡ false → Whole (mutatorsOf s) k h (s .procs) → Whole (mutatorsOf s) k h (set (s .procs) 0 t)
-    took t (inl a) e f = rests t (rest t a e refl f)
-    took t (inr a) e f = rests t (rest t a e refl f)
-
     scanned : {r p : ℕ} {k : Kind} {h : Handshake} (t : Process) {m n : Memory} → Marks (processOf s 0) r → Mark m p r (processOf s 0) n t → Whole (mutatorsOf s) k h (s .procs) → Whole (mutatorsOf s) k h (set (s .procs) 0 t)
     scanned t (Marks.old i) e v = absurd (let b = collector-within (w .collector) .0 in omega arith)
     scanned t (Marks.new i) e v = absurd (let b = collector-within (w .collector) .0 in omega arith)
@@ -228,30 +224,29 @@ module _ (s : State) (w : WellFormed s) where
     collector-hands (Collector.raises r a b m e) v =
         let i = offered r a m in
         let g = rounds r a in
-        raise-moved (c .x) (i .0) (i .1) _ (v .posted) (record { round = g; stage = a .stage; left = m })
+        raise-moved (c .x) (i .0) (i .1) _ (v .told) (record { round = g; stage = a .stage; left = m })
         (λ y _ _ n. raise-flags (processOf s 0) (leaving (removeOf (processOf s 0 .left) (c .x)) (processOf s 0)) y (c .x) g g (a .stage) (a .stage) refl n)
         (raised-flags (processOf s 0) (leaving (removeOf (processOf s 0 .left) (c .x)) (processOf s 0)) (c .x) g (a .stage) refl refl) v
     collector-hands (Collector.raises-last {k} r a b m e) v =
         let i = offered r a m in
         let new : Process = at k pollStage (leaving (fullOf (mutatorsOf s)) (processOf s 0)) in
-        raise-moved (c .x) (i .0) (i .1) new (v .posted ∙ at-posted a) (record { round = rounds r a; stage = a .stage; left = m })
+        raise-moved (c .x) (i .0) (i .1) new (subst (Tells _ _) (at-told a) (v .told)) (record { round = rounds r a; stage = a .stage; left = m })
         (λ y p q n. last-flags (processOf s 0) new y (c .x) (round-place r) e refl (full-has (mutatorsOf s) y p q (small y q)) n)
         (last-raised new (c .x) (round-place r) refl (full-has (mutatorsOf s) (c .x) (i .0) (i .1) (small (c .x) (i .1))) refl) v
-    collector-hands (Collector.polls-up r a b m e) v = collector-moved (processOf s 0) (v .posted) (λ y p q f. f) v
+    collector-hands (Collector.polls-up r a b m e) v = collector-moved (processOf s 0) (v .told) (λ y p q f. f) v
     collector-hands (Collector.polls r a b m e h) v =
-        collector-moved _ (v .posted)
+        collector-moved _ (v .told)
         (λ y p q f. poll-flags (processOf s 0) y (a .stage) f (leaving (removeOf (processOf s 0 .left) (c .x)) (processOf s 0)) (c .x) (λ i. rw i e) (rounds r a) (a .stage) refl) v
-    collector-hands (Collector.polls-last {k} {j} {l} r a b m e h) v =
-        let z : s .hands .phase ≡ postedOf k pollStage = v .posted ∙ at-posted a in
-        collector-moved _ (z ∙ sym (round-ends r .0))
+    collector-hands (Collector.polls-last {j = j} {l = l} r a b m e h) v =
+        collector-moved _ (subst (Tells _ _) (at-told a ∙ sym (round-ends r .0)) (v .told))
         (λ y p q f. over-flags (processOf s 0) y (a .stage) f (at j l (leaving noCells (processOf s 0))) (c .x) (λ i. rw i e) (round-ends r .1) h) v
     collector-hands (Collector.reads-sense a b e) v = rests _ (rest _ a refl refl refl) v
     collector-hands (Collector.writes-sense a b e) v = rests _ (rest _ a refl refl refl) v
     collector-hands (Collector.writes-init a b e) v = rests _ (rest _ a refl refl refl) v
     collector-hands (Collector.writes-mark a b e) v = rests _ (rest _ a refl refl refl) v
     collector-hands (Collector.writes-alloc a b e) v = rests _ (rest _ a refl refl refl) v
-    collector-hands (Collector.takes a b h) v = took _ a refl refl v
-    collector-hands (Collector.takes-none a b h) v = took _ a refl refl v
+    collector-hands (Collector.takes a b h) v = rests _ (take-rests _ a refl refl) v
+    collector-hands (Collector.takes-none a b h) v = rests _ (take-rests _ a refl refl) v
     collector-hands (Collector.reads-first a b m e h) v = rests _ (rest _ a refl refl refl) v
     collector-hands (Collector.reads-first-null a b m e) v = rests _ (rest _ a refl refl refl) v
     collector-hands (Collector.marks b i {t = t} e) v = scanned t i e v
@@ -260,7 +255,7 @@ module _ (s : State) (w : WellFormed s) where
     collector-hands (Collector.drops a b h) v = rests _ (rest _ a refl refl refl) v
     collector-hands (Collector.drops-last a b h) v = rests _ (rest _ a refl refl refl) v
     collector-hands (Collector.writes-sweep a b e) v = rests _ (rest _ a refl refl refl) v
-    collector-hands (Collector.spares a b m e h) v = rests _ (rest _ a (at-posted a) refl (rw (a .place) refl)) v
+    collector-hands (Collector.spares a b m e h) v = rests _ (rest _ a (at-told a) refl (rw (a .place) refl)) v
     collector-hands (Collector.spares-last a b m e h) v = rests _ (rest _ a refl refl refl) v
     collector-hands (Collector.condemns a b m e) v = rests _ (rest _ a refl refl refl) v
     collector-hands (Collector.frees a b e h) v = rests _ (rest _ a refl refl refl) v
@@ -338,7 +333,7 @@ module _ (h : Heap) (w : HeapFits h) where
 
   open-whole : Whole (mutatorsOf (openingOf h)) (openingOf h .hands .kind) (openingOf h .hands .phase) (openingOf h .procs)
   unfolding openingOf openMemory openHands openCollector
-  open-whole = record { posted = refl; each = λ m a b. all-below Opens maxProcesses open-mutators m (omega (arith, w .most)) a b }
+  open-whole = record { told = (refl, inl refl); each = λ m a b. all-below Opens maxProcesses open-mutators m (omega (arith, w .most)) a b }
 
   pub opening-handshakes : Handshakes (openingOf h)
   opening-handshakes = of-whole (openingOf h) open-whole

@@ -1,51 +1,65 @@
--- Where the collector's steps lead, and the system's handshake phase there. Assumes nothing.
---     busyOf                 a round raises or polls
---     at-posted              the phase at a place and stage that are known
---     Rests, rest            a step between two places where none does, with the same handshake phase
---     round-posts            setting the type posts the next phase
---     round-ends             the round over, the phase is the one that the next place tells, and no round raises or polls
+-- Where the collector's steps lead, and the system's handshake phase and type there. Assumes nothing.
+--     toldOf, Tells, Told    what a place and stage tell; the type k and the phase h are as told; they are as the collector's place and stage tell
+--     at-told                what is told at a place and stage that are known
+--     Rests, rest            a step between two places where no round raises or polls: what the first tells holds at the second
+--     take-rests             a take: the type is row 6's or row 8's
+--     round-posts            setting the type posts the next phase and the round's type
+--     round-ends             the round over, phase and type are as the next place tells, and no round raises or polls
 --     Seat, mark-seat, mark-part      a step of a mark: it stays or leads to the place after the mark, and the part in the handshakes is left alone
 --     scan-rests             the collector's marks rest
-use mathlib.Core.Path.{_≡_, refl, sym, _∙_}
-use mathlib.Core.Bool.{Bool, false, false≢true}
+use mathlib.Core.Path.{_≡_, refl, sym, subst, _∙_}
+use mathlib.Core.Bool.{false, false≢true}
+use mathlib.Core.Logic.{_⊎_, inl, inr}
 use Prim.Native.Nat.{ℕ}
-use lib.Dec.{leb}
-use Rattle.base.specs.Pick.{pick}
 use Rattle.memory.specs.declared.Memory.{Memory}
 use Rattle.state.specs.declared.Handshake.{Handshake}
 use Rattle.state.specs.declared.Handshake.the-variants as hand
 use Rattle.state.specs.declared.Kind.{Kind}
 use Rattle.state.specs.declared.Process.{Process}
-use Rattle.state.specs.Codes.{storeMarkOld, storeMarkY, storeWrite, rootsMark, rootsFinish, row7Mark0, row7Read1, row7Mark1, row7Drop, typeStage, raiseStage, pollStage}
-use Rattle.fits.specs.Fits.{amongOf, Among, roundPlaces, scanMarkPlaces}
+use Rattle.state.specs.Codes.{storeMarkOld, storeMarkY, storeWrite, rootsMark, rootsFinish, row6Take, row7Mark0, row7Read1, row7Mark1, row7Drop, row8Take, noStage, typeStage, raiseStage, pollStage}
+use Rattle.fits.specs.Fits.{Among, scanMarkPlaces}
 use Rattle.rows.specs.Rows.{At, unnoted, Next, Mark, Round, Advance}
-use Rattle.claims.specs.Posted.{postedOf}
+use Rattle.claims.specs.Posted.{postedOf, Asked, Allows, askedOf, busyOf}
 
 -- ---- places
-abbrev pub busyOf : ℕ → ℕ → Bool
-busyOf place stage = pick (amongOf place roundPlaces) (leb raiseStage stage) false
+abbrev pub toldOf : ℕ → ℕ → Handshake × Asked
+toldOf place stage = (postedOf place stage, askedOf place stage)
+
+abbrev pub Tells : Kind → Handshake → Handshake × Asked → Type 0
+Tells k h w = (h ≡ w .0) × Allows (w .1) k
+
+abbrev pub Told : Kind → Handshake → Process → Type 0
+Told k h o = Tells k h (toldOf (o .place) (o .stage))
 
 pub record Rests (o t : Process) : Type 0 where
-  pub posted : postedOf (t .place) (t .stage) ≡ postedOf (o .place) (o .stage)
+  pub told : (k : Kind) (h : Handshake) → Told k h o → Told k h t
   pub before : busyOf (o .place) (o .stage) ≡ false
   pub after : busyOf (t .place) (t .stage) ≡ false
 
-pub at-posted : {k j : ℕ} {o : Process} → At k j o → postedOf (o .place) (o .stage) ≡ postedOf k j
-at-posted a = rw (a .place, a .stage) refl
+pub at-told : {k j : ℕ} {o : Process} → At k j o → toldOf (o .place) (o .stage) ≡ toldOf k j
+at-told a = rw (a .place, a .stage) refl
 
-pub rest : {k j : ℕ} {o : Process} (t : Process) → At k j o → postedOf (t .place) (t .stage) ≡ postedOf k j → busyOf k j ≡ false → busyOf (t .place) (t .stage) ≡ false → Rests o t
-rest t a e f g = record { posted = e ∙ sym (at-posted a); before = rw (a .place, a .stage) f; after = g }
+-- from a place and stage that are known
+leave : {k j : ℕ} {o : Process} (t : Process) → At k j o → ((i : Kind) (h : Handshake) → Tells i h (toldOf k j) → Told i h t) → busyOf k j ≡ false → busyOf (t .place) (t .stage) ≡ false → Rests o t
+leave t a e f g = record { told = λ i h v. e i h (subst (Tells i h) (at-told a) v); before = rw (a .place, a .stage) f; after = g }
+
+pub rest : {k j : ℕ} {o : Process} (t : Process) → At k j o → toldOf (t .place) (t .stage) ≡ toldOf k j → busyOf k j ≡ false → busyOf (t .place) (t .stage) ≡ false → Rests o t
+rest t a e = leave t a (λ i h. subst (Tells i h) (sym e))
+
+pub take-rests : {o : Process} (t : Process) → (At row6Take noStage o) ⊎ (At row8Take noStage o) → toldOf (t .place) (t .stage) ≡ (hand.IdleMarkSweep, Asked.rootsOrWork) → busyOf (t .place) (t .stage) ≡ false → Rests o t
+take-rests t (inl a) e = leave t a (λ i h v. subst (Tells i h) (sym e) (v .0, inl (v .1))) refl
+take-rests t (inr a) e = leave t a (λ i h v. subst (Tells i h) (sym e) (v .0, inr (v .1))) refl
 
 -- ---- rounds
-pub round-posts : {k j l : ℕ} {t : Kind} {a : Handshake} → Round k t j l → Advance t (postedOf k typeStage) a → a ≡ postedOf k raiseStage
-round-posts Round.row1 Advance.noop = refl
-round-posts Round.row3 Advance.noop = refl
-round-posts Round.row4 Advance.noop = refl
-round-posts Round.row5 Advance.noop = refl
-round-posts Round.row6 Advance.roots = refl
-round-posts Round.row8 Advance.work = refl
+pub round-posts : {k j l : ℕ} {t : Kind} {a : Handshake} → Round k t j l → Advance t (postedOf k typeStage) a → Tells t a (toldOf k raiseStage)
+round-posts Round.row1 Advance.noop = (refl, refl)
+round-posts Round.row3 Advance.noop = (refl, refl)
+round-posts Round.row4 Advance.noop = (refl, refl)
+round-posts Round.row5 Advance.noop = (refl, refl)
+round-posts Round.row6 Advance.roots = (refl, refl)
+round-posts Round.row8 Advance.work = (refl, refl)
 
-pub round-ends : {k j l : ℕ} {t : Kind} → Round k t j l → (postedOf j l ≡ postedOf k pollStage) × (busyOf j l ≡ false)
+pub round-ends : {k j l : ℕ} {t : Kind} → Round k t j l → (toldOf j l ≡ toldOf k pollStage) × (busyOf j l ≡ false)
 round-ends Round.row1 = (refl, refl)
 round-ends Round.row3 = (refl, refl)
 round-ends Round.row4 = (refl, refl)
@@ -113,9 +127,9 @@ mark-part (Mark.writes e g) = refl
 mark-part (Mark.wins e g h i) = next-part i
 mark-part (Mark.loses e g h i) = next-part i
 
--- in row 7 the phase is IdleMarkSweep at every stage
+-- in row 7 the phase is IdleMarkSweep, the type roots or work, at every stage
 record Quiet (k : ℕ) : Type 0 where
-  pub posted : (j : ℕ) → postedOf k j ≡ hand.IdleMarkSweep
+  pub told : (j : ℕ) → toldOf k j ≡ (hand.IdleMarkSweep, Asked.rootsOrWork)
   pub busy : (j : ℕ) → busyOf k j ≡ false
 
 quiet-seat : {a b k : ℕ} → Among k scanMarkPlaces → a ≡ k → Quiet k → Seat a b → Quiet b
@@ -124,13 +138,13 @@ quiet-seat i e z (Seat.leads Leads.write f g) = absurd (false≢true (rw (← e,
 quiet-seat i e z (Seat.leads Leads.new f g) = absurd (false≢true (rw (← e, f) at i))
 quiet-seat i e z (Seat.leads Leads.marked f g) = absurd (false≢true (rw (← e, f) at i))
 quiet-seat i e z (Seat.leads Leads.roots f g) = absurd (false≢true (rw (← e, f) at i))
-quiet-seat i e z (Seat.leads Leads.first f g) = rw g (record { posted = λ j. refl; busy = λ j. refl })
-quiet-seat i e z (Seat.leads Leads.second f g) = rw g (record { posted = λ j. refl; busy = λ j. refl })
+quiet-seat i e z (Seat.leads Leads.first f g) = rw g (record { told = λ j. refl; busy = λ j. refl })
+quiet-seat i e z (Seat.leads Leads.second f g) = rw g (record { told = λ j. refl; busy = λ j. refl })
 
 quiet-rests : {o t : Process} → Quiet (o .place) → Quiet (t .place) → Rests o t
-quiet-rests {o} {t} a b = record { posted = rw (a .posted (o .stage), b .posted (t .stage)) refl; before = a .busy (o .stage); after = b .busy (t .stage) }
+quiet-rests {o} {t} a b = record { told = λ k h. subst (Tells k h) (a .told (o .stage) ∙ sym (b .told (t .stage))); before = a .busy (o .stage); after = b .busy (t .stage) }
 
-pub scan-rests : {k : ℕ} {o t : Process} → o .place ≡ k → Among k scanMarkPlaces → ((j : ℕ) → postedOf k j ≡ hand.IdleMarkSweep) → ((j : ℕ) → busyOf k j ≡ false) → Seat (o .place) (t .place) → Rests o t
+pub scan-rests : {k : ℕ} {o t : Process} → o .place ≡ k → Among k scanMarkPlaces → ((j : ℕ) → toldOf k j ≡ (hand.IdleMarkSweep, Asked.rootsOrWork)) → ((j : ℕ) → busyOf k j ≡ false) → Seat (o .place) (t .place) → Rests o t
 scan-rests {k} e i f g s =
-    let z : Quiet k = record { posted = f; busy = g } in
+    let z : Quiet k = record { told = f; busy = g } in
     quiet-rests (rw e z) (quiet-seat i e z s)

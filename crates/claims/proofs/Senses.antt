@@ -31,11 +31,10 @@ use Rattle.fits.specs.Fits.{amongOf, Among, plainPlaces, roundPlaces, scanPlace
 use Rattle.fits.proofs.Places.{AllBelow, all-below, allOf, all-true}
 use Rattle.verdict.specs.Table.{InTable}
 use Rattle.claims.specs.Lock.{insideAt, Inside}
-use Rattle.claims.specs.Posted.{postedOf}
+use Rattle.claims.specs.Posted.{postedOf, busyOf}
 use Rattle.claims.specs.Flags.{Flagged}
 use Rattle.claims.specs.Handshakes.{Handshakes}
 use Rattle.claims.specs.Written.{Stretch, Moment, stretchOf, momentOf, entryFor, Wrote, Written}
-use Rattle.claims.proofs.Posted.{busyOf}
 use Rattle.claims.proofs.Flags.{settled}
 use Rattle.claims.proofs.Answering.{implied}
 use Rattle.claims.proofs.Handshakes.{settled-handshakes}

@@ -1,5 +1,6 @@
 -- What the invariant gives after any choices. Assumes nothing.
 --     run-posted        the system's handshake phase is told by where the collector stands
+--     run-typed         so is the type
 --     run-table         each mutator stands in the handshake table
 --     run-unbroken      verdict 3 is never given
 --     run-lock          the lock is held by a process exactly while it is inside its compare and swap
@@ -9,7 +10,7 @@
 use Rattle.state.specs.Openings.{openingOf}
 use Rattle.verdict.proofs.Formed.{formed-verdicts}
 use Rattle.claims.specs.Runs.{runOf}
-use Rattle.claims.specs.Posted.{RunPosted}
+use Rattle.claims.specs.Posted.{RunPosted, RunTyped}
 use Rattle.claims.specs.Table.{RunTable, RunUnbroken}
 use Rattle.claims.specs.Lock.{RunLock, RunLockFree}
 use Rattle.claims.specs.Pending.{RunMarks}
@@ -21,6 +22,9 @@ use Rattle.claims.proofs.Inv.{run-inv}
 
 pub run-posted : RunPosted
 run-posted h f cs = run-inv h f cs .hands .posted
+
+pub run-typed : RunTyped
+run-typed h f cs = run-inv h f cs .hands .typed
 
 pub run-table : RunTable
 run-table h f cs = run-inv h f cs .hands .table

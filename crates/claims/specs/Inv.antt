@@ -11,7 +11,7 @@ use Rattle.claims.specs.Noted.{Noted}
 pub record Inv (s : State) : Type 0 where
   -- nothing is out of range, and what is unused is zero
   pub formed : WellFormed s
-  -- the system's handshake phase is told by the collector's place; each mutator is in the handshake table; the flags are told by the collector's round; a mutator that answers answers the type that is asked
+  -- the system's handshake phase and type are told by the collector's place; each mutator is in the handshake table; the flags are told by the collector's round; a mutator that answers answers the type that is asked
   pub hands : Handshakes s
   -- the lock is with a process exactly while it is inside its compare and swap
   pub lock : Lock s

@@ -1,7 +1,5 @@
-pub mod Turns
-pub mod Owns
+pub mod InPlace
+pub mod ByKind
 pub mod Located
-pub mod CommitView
 pub mod Theorems
 pub mod Runs
-pub mod Compute

@@ -21,8 +21,8 @@ use Rattle.rows.specs.Offers.{markPlace, roundPlace}
 use Rattle.rows.specs.Reasons.{mover}
 use Rattle.rows.proofs.Standing.{Standing}
 use Rattle.rows.proofs.Numbers.{Buffered}
-use Rattle.rows.proofs.MutatorTop.{Mutating}
-use Rattle.rows.proofs.CollectorPlaces.{Collecting}
+use Rattle.rows.proofs.Mutators.{Mutating}
+use Rattle.rows.proofs.Rounds.{Collecting}
 
 -- ---- the stage of a place, by its kind: with no stages, those of a mark, or those of a round
 abbrev plainOf : ℕ → Bool

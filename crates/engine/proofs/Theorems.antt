@@ -9,19 +9,16 @@
 --     one-step              only one answer
 use mathlib.Core.Path.{_≡_, refl, sym, ap, _∙_, subst}
 use mathlib.Core.Bool.{false≢true}
-use mathlib.Core.Logic.{_⊎_, inl, inr, ⊎-elim}
+use mathlib.Core.Logic.{_⊎_, inl, inr, ⊎-elim, by-cases}
 use Prim.Native.Nat.{ℕ, _≤_, _<_}
 use native.Mathlib.Omega.{arith}
-use native.Mathlib.Decide.{decLt}
-use lib.Dec.{leb}
-use borrow.Author.Tests.{leb-true, leb-false, lt-leb, ne-eqb, eq-eqb}
-use Rattle.base.proofs.Picking.{pick-ind, pick-no}
+use native.Mathlib.Decide.{decLt, ℕ-discrete}
+use Rattle.base.proofs.Picking.{pick-ind}
 use Rattle.state.specs.declared.State.{State}
 use Rattle.state.specs.declared.Choice.{Choice}
 use Rattle.state.specs.declared.Answer.{Answer}
 use Rattle.state.specs.Codes as code
-use Rattle.state.specs.Codes.{workFinish}
-use Rattle.memory.specs.Memories.{taken}
+use Rattle.memory.specs.Memories.{maxProcesses, taken}
 use Rattle.memory.specs.Steps.{commitOf}
 use Rattle.state.specs.States.{mutatorsOf, processOf, refusedOf, takenOf}
 use Rattle.fits.specs.Fits.{WellFormed}
@@ -30,20 +27,19 @@ use Rattle.fits.proofs.Whole.{well-formed}
 use Rattle.rows.specs.Rows.{Row, Collector, Mutator}
 use Rattle.rows.specs.Rows as row
 use Rattle.rows.specs.Reasons as reason
-use Rattle.rows.specs.Reasons.{Reason, mover}
-use Rattle.mutator.specs.Mutators.{mutatorOf}
-use Rattle.collector.specs.Collectors.{collectorOf}
+use Rattle.rows.specs.Reasons.{Reason}
 use Rattle.rows.specs.Views as view
 use Rattle.rows.specs.Views.{View}
-use Rattle.rows.proofs.MutatorView.{mutator-view-at}
-use Rattle.rows.proofs.MutatorRows.{mutator-complete-at}
-use Rattle.rows.proofs.CollectorView.{collector-view}
+use Rattle.rows.proofs.Road.{ownOf}
+use Rattle.rows.proofs.MutatorRows.{mutator-view, mutator-complete}
+use Rattle.rows.proofs.Collectors.{collector-view}
 use Rattle.rows.proofs.CollectorRows.{collector-complete}
+use Rattle.rows.proofs.Commits.{commit-view, commit-row}
 use Rattle.kept.proofs.Kept.{row-kept}
-use Rattle.engine.specs.Steps.{commitStep, ownStep, innerOf, stepOf}
+use Rattle.engine.specs.Steps.{innerOf, stepOf}
 use Rattle.engine.specs.Statements.{First, lastNo, Refused, Answered, Numbered, MalformedExactly, Exact, Kept, InnerFormed, One}
+use Rattle.engine.proofs.ByKind.{inner-absent, inner-own, inner-commit, inner-unknown}
 use Rattle.engine.proofs.Located.{buffered, collecting, mutating}
-use Rattle.engine.proofs.CommitView.{commit-view, commit-row}
 
 -- ---- every answer, seen once for all theorems
 data Whole (s : State) (c : Choice) : Answer → Type 0 where
@@ -101,29 +97,37 @@ module _ (s : State) (c : Choice) (w : WellFormed s) where
         clear k g (no h) = past k (omega arith) g
 
 -- an own step, by its program
-own-whole : (s : State) (c : Choice) (w : WellFormed s) → c .process ≤ mutatorsOf s → c .kind ≡ 0 → Whole s c (ownStep s c)
-unfolding ownStep
+own-whole : (s : State) (c : Choice) (w : WellFormed s) → c .process ≤ mutatorsOf s → c .kind ≡ 0 → Whole s c (ownOf s c)
 own-whole s c w h k =
-    pick-no (Whole s c) (c .process) 0
-    (λ e. subst (λ (p : ℕ). Whole s c (collectorOf s c (processOf s p))) (sym e)
-    (whole-of s c w h (inl k) (Collector s c 0 (processOf s 0)) (λ t r. row.collector k e r) (collector-view s c e (collecting s c w k e))))
+    by-cases (ℕ-discrete (c .process) 0)
+    (λ e. whole-of s c w h (inl k) (Collector s c 0 (processOf s 0)) (λ t r. row.collector k e r) (collector-view s c e (collecting s c w k e)))
     (λ n. let z : 0 < c .process = omega arith in
-    whole-of s c w h (inl k) (Mutator s c (c .process) (processOf s (c .process))) (λ t r. row.mutator k refl z h r) (mutator-view-at s c (c .process) refl (mutating s c w k z h)))
+    whole-of s c w h (inl k) (Mutator s c (c .process) (processOf s (c .process))) (λ t r. row.mutator k refl z h r) (mutator-view s c (mutating s c w k z h)))
+
+-- the process is there, and there are at most as many as there can be
+small : (s : State) (c : Choice) → WellFormed s → c .process < s .memory .processes → c .process < maxProcesses
+small s c w l = let few = w .memory .few-processes in omega arith
 
 -- checks 2 and 3, and the step
 inner-whole : (s : State) (c : Choice) → WellFormed s → Whole s c (innerOf s c)
-unfolding innerOf
-inner-whole s c w =
-    let some-processes = w .memory .some-processes in
-    pick-ind (Whole s c) (leb (s .memory .processes) (c .process))
-    (λ t. let l = leb-true (s .memory .processes) (c .process) t in
-    stops code.notThere (omega arith) (record { holds = reason.noProcess refl (omega arith); none-before = early s c w code.notThere (omega arith) (λ i. absurd (omega arith)) (λ i. absurd (omega arith)) }))
-    (λ t. let l = leb-false (s .memory .processes) (c .process) t in
-    let h : c .process ≤ mutatorsOf s = omega arith in
-    pick-no (Whole s c) (c .kind) 0 (own-whole s c w h)
-    (λ n. pick-no (Whole s c) (c .kind) 1
-    (λ k. whole-of s c w h (inr k) (Row s c) (λ t r. r) (commit-view s c k (buffered s c w h .shaped) h))
-    (λ o. stops code.noSuchKind (omega arith) (record { holds = reason.noKind refl n o; none-before = early s c w code.noSuchKind (omega arith) (λ i. h) (λ i. absurd (omega arith)) }))))
+inner-whole s c w = go (decLt (c .process) (s .memory .processes))
+  where
+    by : {a : Answer} → innerOf s c ≡ a → Whole s c a → Whole s c (innerOf s c)
+    by e h = subst (Whole s c) (sym e) h
+
+    go : Dec (c .process < s .memory .processes) → Whole s c (innerOf s c)
+    go (no n) =
+        let some-processes = w .memory .some-processes in
+        by (inner-absent s c (omega arith))
+        (stops code.notThere (omega arith) (record { holds = reason.noProcess refl (omega arith); none-before = early s c w code.notThere (omega arith) (λ i. absurd (omega arith)) (λ i. absurd (omega arith)) }))
+    go (yes l) =
+        let h : c .process ≤ mutatorsOf s = omega arith in
+        let m = small s c w l in
+        by-cases (ℕ-discrete (c .kind) 0) (λ k. by (inner-own s c l m k) (own-whole s c w h k))
+        (λ n. by-cases (ℕ-discrete (c .kind) 1)
+        (λ k. by (inner-commit s c l m k) (whole-of s c w h (inr k) (Row s c) (λ t r. r) (commit-view s c k (buffered s c w h .shaped) h)))
+        (λ o. by (inner-unknown s c l m n o)
+        (stops code.noSuchKind (omega arith) (record { holds = reason.noKind refl n o; none-before = early s c w code.noSuchKind (omega arith) (λ i. h) (λ i. absurd (omega arith)) }))))
 
 first-malformed : (s : State) (c : Choice) → (WellFormed s → ⊥) → First s c code.malformed
 first-malformed s c n = record { holds = reason.malformed refl n; none-before = λ k l g. let z = number s c k g .some in omega arith }
@@ -185,38 +189,22 @@ to-row : {s t : State} {c : Choice} {a : Answer} → Whole s c a → a ≡ taken
 to-row (stops n p f) e = let h = number-of e in absurd (omega arith)
 to-row {s} {c = c} (goes w q r) e = (w, subst (Row s c) (ap (λ (a : Answer). a .state) e) r)
 
--- the step of a process that is there, by the kind of the choice and the process
-module _ (s : State) (c : Choice) (l : c .process < s .memory .processes) where
-  inner-own : c .kind ≡ 0 → innerOf s c ≡ ownStep s c
-  unfolding innerOf
-  inner-own k = rw (lt-leb (s .memory .processes) (c .process) l, eq-eqb (c .kind) 0 k) refl
-
-  inner-commit : c .kind ≡ 1 → innerOf s c ≡ commitStep s c
-  unfolding innerOf
-  inner-commit k = rw (lt-leb (s .memory .processes) (c .process) l, ne-eqb (c .kind) 0 (λ h. omega arith), eq-eqb (c .kind) 1 k) refl
-
-own-collector : (s : State) (c : Choice) → c .process ≡ 0 → ownStep s c ≡ collectorOf s c (processOf s 0)
-unfolding ownStep
-own-collector s c e = rw (eq-eqb (c .process) 0 e) (ap (λ (p : ℕ). collectorOf s c (processOf s p)) e)
-
-own-mutator : (s : State) (c : Choice) (p : ℕ) → c .process ≡ p → 0 < p → ownStep s c ≡ mutatorOf s c (processOf s p)
-unfolding ownStep
-own-mutator s c p e z = rw (ne-eqb (c .process) 0 (λ h. omega arith)) (ap (λ (k : ℕ). mutatorOf s c (processOf s k)) e)
-
 -- a row is an answer of the step that is made where the state is known to be well formed
 of-row : (s : State) (c : Choice) {t : State} → WellFormed s → Row s c t → innerOf s c ≡ takenOf t
 of-row s c w (row.collector k e r) =
     let i = w .memory .some-processes in
-    inner-own s c (omega arith) k ∙ own-collector s c e ∙ collector-complete s c e (collecting s c w k e) r
-of-row s c w (row.mutator k {p} e z h r) =
+    let l : c .process < s .memory .processes = omega arith in
+    inner-own s c l (small s c w l) k ∙ collector-complete s c e (collecting s c w k e) r
+of-row s c {t} w (row.mutator k {p} e z h r) =
     let i = w .memory .some-processes in
     let y : 0 < c .process = omega arith in
     let g : c .process ≤ mutatorsOf s = omega arith in
-    let l : mover s c .place ≤ workFinish = mutating s c w k y g .place in
-    inner-own s c (omega arith) k ∙ own-mutator s c p e z ∙ mutator-complete-at s c p e (subst (λ (j : ℕ). processOf s j .place ≤ workFinish) e l) r
+    let l : c .process < s .memory .processes = omega arith in
+    inner-own s c l (small s c w l) k ∙ mutator-complete s c (mutating s c w k y g) (subst (λ (j : ℕ). Mutator s c j (processOf s j) t) (sym e) r)
 of-row s c w (row.commits k {p} e h b {m} a) =
     let i = w .memory .some-processes in
-    inner-commit s c (omega arith) k ∙ commit-row s c b (subst (λ (j : ℕ). commitOf (s .memory) j ≡ taken m) (sym e) a)
+    let l : c .process < s .memory .processes = omega arith in
+    inner-commit s c l (small s c w l) k ∙ commit-row s c b (subst (λ (j : ℕ). commitOf (s .memory) j ≡ taken m) (sym e) a)
 
 -- ---- check 1 finds nothing in a well-formed state
 pub inner-formed : InnerFormed

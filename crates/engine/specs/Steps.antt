@@ -1,36 +1,53 @@
--- One record's step: "When the judge says no", checks 1 to 3, and the dispatch to memory and to the two programs. Assumes nothing.
+-- One record's step: "When the judge says no", checks 1 to 3, and a commit beside the own steps of the two programs. Assumes nothing.
 use Prim.Native.Nat.{ℕ}
 use lib.Dec.{eqb, leb}
 use Rattle.base.specs.Pick.{pick}
-use Rattle.memory.specs.Steps.{commitOf}
+use Rattle.memory.specs.declared.asks.Ask.{Ask}
+use Rattle.memory.specs.declared.asks.Ask.the-variants as ask
+use Rattle.memory.specs.declared.asks.Change.the-variants as change
+use Rattle.memory.specs.declared.asks.Sight.{Sight}
+use Rattle.memory.specs.Memories.{asTaken, maxProcesses}
+use Rattle.memory.specs.Asks.{toldOf}
+use Rattle.state.specs.declared.Process.{Process}
 use Rattle.state.specs.declared.State.{State}
 use Rattle.state.specs.declared.Choice.{Choice}
 use Rattle.state.specs.declared.Answer.{Answer}
+use Rattle.state.specs.declared.acts.Going.{Going}
+use Rattle.state.specs.declared.acts.Setting.{Setting}
 use Rattle.state.specs.Codes.{malformed, notThere, noSuchKind, notOffered}
-use Rattle.state.specs.States.{processOf, withMemory, refusedOf, takenOf}
+use Rattle.state.specs.States.{processOf, refusedOf}
 use Rattle.state.specs.Choices.{isBlank}
+use Rattle.state.specs.Acts.{goingOn, settingOf}
 use Rattle.fits.specs.WellFormed.{wellFormedOf}
-use Rattle.mutator.specs.Mutators.{mutatorOf}
-use Rattle.collector.specs.Collectors.{collectorOf}
+use Rattle.own.specs.Owns.{ownRefuses, ownAsk, ownGo, answeredOf}
 
--- "A commit applies one's oldest store, unblocked."
-unfoldable pub commitStep : State → Choice → Answer
-commitStep s c =
-    pick (isBlank c)
-    (let k = commitOf (s .memory) (c .process) in pick (eqb (k .no) 0) (takenOf (withMemory s (k .memory))) (refusedOf (k .no) s))
-    (refusedOf notOffered s)
+-- a commit uses no argument
+unfoldable pub commitRefuses : Choice → ℕ
+commitRefuses c = pick (isBlank c) asTaken notOffered
 
--- an own step: the collector's program, or a mutator's
-unfoldable pub ownStep : State → Choice → Answer
-ownStep s c = pick (eqb (c .process) 0) (collectorOf s c (processOf s (c .process))) (mutatorOf s c (processOf s (c .process)))
+-- 2: "the process is above M", and there are at most 5 processes; 3: "the kind is not 0 (own step) or 1 (commit)". The number of the refusal, or 0
+unfoldable pub refusesOf : ℕ → ℕ → Choice → Process → ℕ
+refusesOf m n c q =
+    pick (leb m (c .process)) notThere
+    (pick (leb maxProcesses (c .process)) notThere
+    (pick (eqb (c .kind) 0) (ownRefuses n c q)
+    (pick (eqb (c .kind) 1) (commitRefuses c)
+    noSuchKind)))
 
--- 2: "the process is above M"; 3: "the kind is not 0 (own step) or 1 (commit)"
+-- what the record asks of memory: "A commit applies one's oldest store, unblocked."
+unfoldable pub askOf : Choice → Process → Ask
+askOf c q = pick (eqb (c .kind) 1) (ask.Make change.Commit) (ownAsk c q)
+
+-- how it goes on: a commit leaves the process as it is
+unfoldable pub goOf : Choice → Setting → Sight → Process → Going
+goOf c z v q = pick (eqb (c .kind) 1) (goingOn q) (ownGo c z v q)
+
+-- checks 2 to 11
 unfoldable pub innerOf : State → Choice → Answer
 innerOf s c =
-    pick (leb (s .memory .processes) (c .process)) (refusedOf notThere s)
-    (pick (eqb (c .kind) 0) (ownStep s c)
-    (pick (eqb (c .kind) 1) (commitStep s c)
-    (refusedOf noSuchKind s)))
+    let q = processOf s (c .process) in
+    let n = refusesOf (s .memory .processes) (s .memory .cells) c q in
+    pick (eqb n 0) (answeredOf s (c .process) (λ v. goOf c (settingOf s (c .x)) v q) (toldOf (s .memory) (c .process) (askOf c q))) (refusedOf n s)
 
 -- 1: "the state is malformed"
 unfoldable pub stepOf : State → Choice → Answer

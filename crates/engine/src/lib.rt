@@ -1,70 +1,90 @@
-// One record's step: the checks in number order, and the dispatch over kind, process, place and stage.
-mod marks;
-pub mod settles;
-
-use memory::Memory;
+// One record's step: the checks in number order; what the record asks of memory, and how its process goes on. A commit stands beside the own steps.
+// c is the choice, q the process that it names. `refuses`, `ask` and `go` take no state: so a run can keep one and change it in place.
+use memory::asks::Ask;
+use memory::asks::Change;
+use memory::asks::Sight;
 use state::Answer;
 use state::Choice;
-use state::Hands;
 use state::Process;
 use state::State;
-use state::turns::Act;
-use state::turns::Deed;
-use state::turns::Turn;
+use state::acts::Going;
+use state::acts::Setting;
 ghost use mathlib.Core.Path.{_≡_};
-ghost use Rattle.engine.specs.Steps.{innerOf, stepOf};
-ghost use Rattle.engine.specs.Turns.{commitTurn, ownTurn, innerTurn};
+ghost use Rattle.engine.specs.Steps.{commitRefuses, refusesOf, askOf, goOf, innerOf, stepOf};
 
-// "A commit applies one's oldest store, unblocked." It uses no argument, and leaves the process as it is.
-fn commit(c: Choice, q: Process) -> Turn
-    ensures { λ r. ⌜ r ≡ commitTurn c q ⌝ }
+// A commit uses no argument.
+fn commit_refuses(c: Choice) -> u8
+    ensures { λ r. ⌜ r ≡ commitRefuses c ⌝ }
 {
-    if !c.blank() {
-        return Turn::stops(Answer::NOT_OFFERED, q);
+    if c.blank() {
+        return Answer::TAKEN;
     }
-    Turn::does(Act::Does(Deed::Commits), q)
+    Answer::NOT_OFFERED
 }
 
-// An own step of the process: of a mark, or of its program.
-fn own(m: Memory, h: Hands, up: bool, c: Choice, q: Process) -> Turn
-    ensures { λ r. ⌜ r ≡ ownTurn m h up c q ⌝ }
+// Checks 2 to 4 and 6, n being the number of cells: the number of the refusal, or 0.
+pub fn refuses(processes: u8, n: u8, c: Choice, q: Process) -> u8
+    ensures { λ r. ⌜ r ≡ refusesOf processes n c q ⌝ }
 {
-    if marks::is_marking(c.process, q.place) {
-        return marks::mark(m, c, q);
+    if processes <= c.process {
+        return Answer::NO_PROCESS;
     }
-    if c.process == 0 {
-        return collector::step(m, h, up, c, q);
-    }
-    mutator::step(m, h, c, q)
-}
-
-// Checks 2 and 3, and the turn of the process that c names, which is q; `up` is the flag of the mutator that c.x names.
-// It takes no state: so a run can keep one and change it in place.
-pub fn turn(m: Memory, h: Hands, up: bool, c: Choice, q: Process) -> Turn
-    ensures { λ r. ⌜ r ≡ innerTurn m h up c q ⌝ }
-{
-    if m.processes <= c.process {
-        return Turn::stops(Answer::NO_PROCESS, q);
+    let i = c.process as usize;
+    if State::PROCESSES <= i {
+        return Answer::NO_PROCESS;
     }
     let kind = c.kind;
     match kind {
-        Choice::OWN => own(m, h, up, c, q),
-        Choice::COMMIT => commit(c, q),
-        2..=255 => Turn::stops(Answer::NO_KIND, q),
+        Choice::OWN => own::refuses(n, c, q),
+        Choice::COMMIT => commit_refuses(c),
+        2..=255 => Answer::NO_KIND,
     }
 }
 
-// Checks 2 and 3, and the step: for a state that is known to be well formed, as every state of a run from an opening is.
-pub fn inner(s: State, c: Choice) -> Answer
+// "A commit applies one's oldest store, unblocked."
+pub fn ask(c: Choice, q: Process) -> Ask
+    ensures { λ r. ⌜ r ≡ askOf c q ⌝ }
+{
+    if c.kind == Choice::COMMIT {
+        return Ask::Make(Change::Commit);
+    }
+    own::ask(c, q)
+}
+
+// A commit leaves the process as it is.
+pub fn go(c: Choice, set: Setting, seen: Sight, q: Process) -> Going
+    ensures { λ r. ⌜ r ≡ goOf c set seen q ⌝ }
+{
+    if c.kind == Choice::COMMIT {
+        return Going::on(q);
+    }
+    own::go(c, set, seen, q)
+}
+
+// Checks 2 to 11, and the step: for a state that is known to be well formed, as every state of a run from an opening is.
+pub fn inner(mut s: State, c: Choice) -> Answer
     ensures { λ r. ⌜ r ≡ innerOf s c ⌝ }
 {
+    let p = c.process;
     let m = s.memory;
-    let h = s.hands;
-    let q = s.process(c.process);
-    let other = s.process(c.x);
-    let part = other.part;
-    let t = turn(m, h, part.raised, c, q);
-    settles::settled(s, c.process, t)
+    let q = s.process(p);
+    let set = s.setting(c.x);
+    let no = refuses(m.processes, m.cells, c, q);
+    if no != 0 {
+        return s.refused(no);
+    }
+    let asked = ask(c, q);
+    let seen = m.sight(p, asked);
+    if seen.no != 0 {
+        return s.refused(seen.no);
+    }
+    let d = m.made(p, asked);
+    if d.no != 0 {
+        return s.refused(d.no);
+    }
+    let memory = d.memory;
+    s.memory = memory;
+    s.goes(p, go(c, set, seen, q)).taken()
 }
 
 // Any state, any choice: "Checks run in number order."

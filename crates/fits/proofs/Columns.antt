@@ -9,7 +9,6 @@
 --     columns, joined                the three columns of a place's row, apart and together
 use mathlib.Core.Path.{_≡_, refl, sym}
 use mathlib.Core.Bool.{Bool, true, false, false≢true}
-use mathlib.Core.Logic.{_⊎_, inl, inr}
 use Prim.Native.Nat.{ℕ, _≤_, _<_}
 use native.Mathlib.Decide.{ℕ-discrete, decLt}
 use native.Mathlib.Omega.{arith}
@@ -17,7 +16,6 @@ use lib.Dec.{eqb, ltb, leb}
 use borrow.Author.Tests.{leb-true, ltb-true, eqb-true, lt-ltb, le-leb, lt-leb, eq-eqb, ne-eqb}
 use Rattle.base.specs.Pick.{pick}
 use Rattle.base.specs.Every.{_and_}
-use Rattle.base.proofs.Picking.{picked}
 use Rattle.base.proofs.Everies.{and-both, unless}
 use Rattle.cells.specs.Sets.{noCells, belowOf}
 use Rattle.cells.proofs.Belows.{below-empty}
@@ -89,34 +87,30 @@ module _ (n : ℕ) (q : Process) where
   noted-test h w = rw (cell-test n (q .x) h) (no-store-test w)
 
   -- ---- the notes of a mark
-  grey-told : (c : ℕ) → greyFitsOf c q ≡ true → (q .stage < unlockStage → q .grey ≡ 0) × ((q .grey ≡ 0) ⊎ (q .grey ≡ c))
+  grey-told : greyFitsOf n q ≡ true → (q .stage < unlockStage → q .grey ≡ 0) × (q .grey ≤ n)
   unfolding greyFitsOf
-  grey-told c e = go (ℕ-discrete (q .grey) 0)
+  grey-told e = go (ℕ-discrete (q .stage) unlockStage)
     where
-      go : Dec (q .grey ≡ 0) → (q .stage < unlockStage → q .grey ≡ 0) × ((q .grey ≡ 0) ⊎ (q .grey ≡ c))
-      go (yes h) = (λ l. h, inl h)
-      go (no h) =
-          let a = and-both (eqb (q .stage) unlockStage) (eqb (q .grey) c) (rw (ne-eqb (q .grey) 0 h) at e) in
-          let k : q .stage ≡ unlockStage = eqb-true _ _ (a .0) in
-          (λ l. absurd (omega arith), inr (eqb-true _ _ (a .1)))
+      go : Dec (q .stage ≡ unlockStage) → (q .stage < unlockStage → q .grey ≡ 0) × (q .grey ≤ n)
+      go (yes h) = (λ l. absurd (omega arith), leb-true _ _ (rw (eq-eqb (q .stage) unlockStage h) at e))
+      go (no h) = let k : q .grey ≡ 0 = eqb-true _ _ (rw (ne-eqb (q .stage) unlockStage h) at e) in (λ l. k, omega arith)
 
-  grey-test : (c : ℕ) → q .stage ≤ unlockStage → (q .stage < unlockStage → q .grey ≡ 0) → (q .grey ≡ 0) ⊎ (q .grey ≡ c) → greyFitsOf c q ≡ true
+  grey-test : q .stage ≤ unlockStage → (q .stage < unlockStage → q .grey ≡ 0) → q .grey ≤ n → greyFitsOf n q ≡ true
   unfolding greyFitsOf
-  grey-test c l z (inl h) = rw (eq-eqb (q .grey) 0 h) refl
-  grey-test c l z (inr h) = go (decLt (q .stage) unlockStage)
+  grey-test l z h = go (ℕ-discrete (q .stage) unlockStage)
     where
-      go : Dec (q .stage < unlockStage) → greyFitsOf c q ≡ true
-      go (yes k) = rw (eq-eqb (q .grey) 0 (z k)) refl
-      go (no k) = let e : q .stage ≡ unlockStage = omega arith in rw (eq-eqb (q .stage) unlockStage e, eq-eqb (q .grey) c h) (picked (λ t. t ≡ true) (eqb (q .grey) 0) refl refl)
+      go : Dec (q .stage ≡ unlockStage) → greyFitsOf n q ≡ true
+      go (yes k) = rw (eq-eqb (q .stage) unlockStage k) (le-leb _ _ h)
+      go (no k) = rw (ne-eqb (q .stage) unlockStage k) (eq-eqb _ _ (z (omega arith)))
 
   pub mark-told : (c : ℕ) → markFitsOf n c q ≡ true → MarkNotes n (q .stage) c (q .look) (q .grey)
   unfolding markFitsOf lookFitsOf
   mark-told c e =
-      let a = and-both (ltb 0 (q .stage)) (leb (q .stage) unlockStage and isCellOf n c and lookFitsOf q and greyFitsOf c q) e in
-      let b = and-both (leb (q .stage) unlockStage) (isCellOf n c and lookFitsOf q and greyFitsOf c q) (a .1) in
-      let d = and-both (isCellOf n c) (lookFitsOf q and greyFitsOf c q) (b .1) in
-      let f = and-both (lookFitsOf q) (greyFitsOf c q) (d .1) in
-      let g = grey-told c (f .1) in
+      let a = and-both (ltb 0 (q .stage)) (leb (q .stage) unlockStage and isCellOf n c and lookFitsOf q and greyFitsOf n q) e in
+      let b = and-both (leb (q .stage) unlockStage) (isCellOf n c and lookFitsOf q and greyFitsOf n q) (a .1) in
+      let d = and-both (isCellOf n c) (lookFitsOf q and greyFitsOf n q) (b .1) in
+      let f = and-both (lookFitsOf q) (greyFitsOf n q) (d .1) in
+      let g = grey-told (f .1) in
       record {
         is-cell = cell-told n c (d .0);
         begun = ltb-true _ _ (a .0);
@@ -130,7 +124,7 @@ module _ (n : ℕ) (q : Process) where
   unfolding markFitsOf lookFitsOf
   mark-test c w =
       rw (lt-ltb _ _ (w .begun), le-leb _ _ (w .running), cell-test n c (w .is-cell), late-test (q .look) senseStage (q .stage) (w .no-look))
-      (grey-test c (w .running) (w .no-grey) (w .is-grey))
+      (grey-test (w .running) (w .no-grey) (w .is-grey))
 
   pub unmarked-told : noMarkOf q ≡ true → Unmarked (q .cell) (q .look) (q .grey)
   unfolding noMarkOf

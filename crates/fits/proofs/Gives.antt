@@ -183,7 +183,7 @@ collector-within {n} {m} {q} w = go (w .notes)
 -- ---- the notes of a mark: it begins; the first look is noted; a stage between the second and the last; the write, which greys c
 pub mark-begins : {n c g : ℕ} {l : Bool} → IsCell n c → l ≡ false → g ≡ 0 → MarkNotes n lookStage c l g
 mark-begins h e z =
-    record { is-cell = h; begun = omega arith; running = omega arith; no-look = λ _. e; no-grey = λ _. z; is-grey = inl z }
+    record { is-cell = h; begun = omega arith; running = omega arith; no-look = λ _. e; no-grey = λ _. z; is-grey = omega arith }
 
 pub mark-looks : {n s c g : ℕ} {l : Bool} → MarkNotes n s c l g → s ≡ lookStage → (b : Bool) → MarkNotes n senseStage c b g
 mark-looks w e b =
@@ -195,7 +195,7 @@ mark-goes-on k w h a b =
 
 pub mark-greys : {n s c g : ℕ} {l : Bool} → MarkNotes n s c l g → MarkNotes n unlockStage c l c
 mark-greys w =
-    record { is-cell = w .is-cell; begun = omega arith; running = omega arith; no-look = λ i. absurd (omega arith); no-grey = λ i. absurd (omega arith); is-grey = inr refl }
+    record { is-cell = w .is-cell; begun = omega arith; running = omega arith; no-look = λ i. absurd (omega arith); no-grey = λ i. absurd (omega arith); is-grey = w .is-cell .1 }
 
 -- ---- what is always in use may change
 pub shaken : {n : ℕ} {q : Process} (w r : ℕ) (a b : Bool) (h : Handshake) → MutatorAt n q → MutatorAt n (listing w r (shaking a b h q))

@@ -64,14 +64,14 @@ pub record Unnoted (x f y old : ℕ) : Type 0 where
   pub no-old : old ≡ 0
 
 -- a mark of the cell c, at one of its seven stages: "look at r's mark; read fM, ..; read phase, ..; lock; look again; .. write mark := noted fM (r is now being
--- greyed); unlock". The first look is noted from the second; a cell is being greyed at the seventh alone, and it is c.
+-- greyed); unlock". The first look is noted from the second; a cell, or none, is being greyed at the seventh alone.
 pub record MarkNotes (n stage c : ℕ) (look : Bool) (grey : ℕ) : Type 0 where
   pub is-cell : IsCell n c
   pub begun : 0 < stage
   pub running : stage ≤ unlockStage
   pub no-look : stage < senseStage → look ≡ false
   pub no-grey : stage < unlockStage → grey ≡ 0
-  pub is-grey : (grey ≡ 0) ⊎ (grey ≡ c)
+  pub is-grey : grey ≤ n
 
 -- no mark
 pub record Unmarked (cell : ℕ) (look : Bool) (grey : ℕ) : Type 0 where

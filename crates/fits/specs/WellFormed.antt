@@ -65,7 +65,7 @@ leftFitsOf used n m q =
     (pick (leb raiseStage (q .stage)) (belowOf (q .left) m) (eqb (q .left) noCells))
     (eqb (q .left) noCells))
 
--- ---- the stage, and the notes of a mark: none; of the cell c, the first look from stage 2 and the cell being greyed at stage 7 alone
+-- ---- the stage, and the notes of a mark: none; of the cell c, the first look from stage 2 and a cell being greyed at stage 7 alone
 unfoldable pub noMarkOf : Process → Bool
 noMarkOf q = eqb (q .cell) 0 and pick (q .look) false (eqb (q .grey) 0)
 
@@ -73,10 +73,10 @@ unfoldable pub lookFitsOf : Process → Bool
 lookFitsOf q = pick (q .look) (leb senseStage (q .stage)) true
 
 unfoldable pub greyFitsOf : ℕ → Process → Bool
-greyFitsOf c q = pick (eqb (q .grey) 0) true (eqb (q .stage) unlockStage and eqb (q .grey) c)
+greyFitsOf n q = pick (eqb (q .stage) unlockStage) (leb (q .grey) n) (eqb (q .grey) 0)
 
 unfoldable pub markFitsOf : ℕ → ℕ → Process → Bool
-markFitsOf n c q = ltb 0 (q .stage) and leb (q .stage) unlockStage and isCellOf n c and lookFitsOf q and greyFitsOf c q
+markFitsOf n c q = ltb 0 (q .stage) and leb (q .stage) unlockStage and isCellOf n c and lookFitsOf q and greyFitsOf n q
 
 unfoldable pub namedFitsOf : ℕ → Process → Bool
 namedFitsOf n q = pick (eqb (q .stage) lookStage) (noMarkOf q) (markFitsOf n (q .cell) q)

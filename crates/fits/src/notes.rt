@@ -90,17 +90,14 @@ fn look_fits(q: Process) -> bool
     true
 }
 
-// What is being greyed is the cell c being marked, and that at the last stage alone.
-fn grey_fits(c: u8, q: Process) -> bool
-    ensures { λ r. ⌜ r ≡ greyFitsOf c q ⌝ }
+// A cell, or none, is being greyed at the unlock, and none before.
+fn grey_fits(n: u8, q: Process) -> bool
+    ensures { λ r. ⌜ r ≡ greyFitsOf n q ⌝ }
 {
-    if q.grey == 0 {
-        return true;
-    }
     if q.stage == Process::UNLOCK {
-        return q.grey == c;
+        return q.grey <= n;
     }
-    false
+    q.grey == 0
 }
 
 // A mark of the cell c, at one of its seven stages.
@@ -111,7 +108,7 @@ fn mark_fits(n: u8, c: u8, q: Process) -> bool
         if q.stage <= Process::UNLOCK {
             if is_cell(n, c) {
                 if look_fits(q) {
-                    return grey_fits(c, q);
+                    return grey_fits(n, q);
                 }
             }
         }

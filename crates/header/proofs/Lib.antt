@@ -3,3 +3,6 @@ pub mod Agrees
 pub mod Opens
 pub mod Heaps
 pub mod Same
+pub mod Littles
+pub mod Written
+pub mod Exacts

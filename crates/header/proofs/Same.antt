@@ -1,6 +1,7 @@
 -- Only the header decides what a log opens to. Assumes nothing.
---     header-decides     two logs with the same header open to the same heap
---     cut-inside         a log cut inside its header is not admitted
+--     listed-same, below-same     lists made of the same
+--     header-decides              two logs with the same header open to the same heap
+--     cut-inside                  a log cut inside its header is not admitted
 use mathlib.Core.Path.{_≡_, refl, ap, ap₂, _∙_}
 use mathlib.Core.Bool.{Bool}
 use mathlib.Core.List.{List, [], _∷_, _++_}
@@ -25,11 +26,11 @@ every-same : (t u : ℕ → Bool) (n : ℕ) → ((i : ℕ) → i < n → t i ≡
 every-same t u zero f = refl
 every-same t u (suc n) f = ap₂ _and_ (every-same t u n (λ i h. f i (omega arith))) (f n (omega arith))
 
-listed-same : (f g : ℕ → ℕ) (n : ℕ) → ((i : ℕ) → i < n → f i ≡ g i) → listed n f ≡ listed n g
+pub listed-same : (f g : ℕ → ℕ) (n : ℕ) → ((i : ℕ) → i < n → f i ≡ g i) → listed n f ≡ listed n g
 listed-same f g zero e = refl
 listed-same f g (suc n) e = ap₂ (λ (l : List ℕ) (x : ℕ). l ++ (x ∷ [])) (listed-same f g n (λ i h. e i (omega arith))) (e n (omega arith))
 
-below-same : (n i x y : ℕ) → (i < n → x ≡ y) → pick (ltb i n) x 0 ≡ pick (ltb i n) y 0
+pub below-same : (n i x y : ℕ) → (i < n → x ≡ y) → pick (ltb i n) x 0 ≡ pick (ltb i n) y 0
 below-same n i x y f = go (decLt i n)
   where
     go : Dec (i < n) → pick (ltb i n) x 0 ≡ pick (ltb i n) y 0

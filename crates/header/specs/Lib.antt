@@ -2,3 +2,4 @@ pub mod Bytes
 pub mod Header
 pub mod Admitted
 pub mod Statements
+pub mod Written

@@ -160,9 +160,6 @@ module _ {n m p r : ℕ} {q : Process} (f : Fits n m p q) (k : Running n m p r q
   going : (j : ℕ) → lookStage < j → j ≤ unlockStage → q .stage < unlockStage → (0 < p → j < phaseStage → q .sense ≡ false) → Fits n m p (at (q .place) j q)
   going j i l h s = k .goes j (q .look) (q .sense) (q .grey) (mark-goes-on j (k .notes) h i l) i s
 
-  greyed : q .grey ≤ n
-  greyed = ⊎-elim (λ (e : q .grey ≡ 0). omega arith) (λ (e : q .grey ≡ r). omega (arith, k .notes .is-cell .1)) (k .notes .is-grey)
-
   pub mark-fits : {a b : Memory} {t : Process} → Mark a p r q b t → Fits n m p t
   unfolding unnoted
   mark-fits (Mark.looks e {b = x} g) =
@@ -178,7 +175,7 @@ module _ {n m p r : ℕ} {q : Process} (f : Fits n m p q) (k : Running n m p r q
   mark-fits (Mark.agrees e g) = going writeStage (omega arith) (omega arith) (omega arith) (λ pos i. absurd (omega arith))
   mark-fits (Mark.differs e g) = going unlockStage (omega arith) (omega arith) (omega arith) (λ pos i. absurd (omega arith))
   mark-fits (Mark.writes e g) = k .goes unlockStage (q .look) (q .sense) r (mark-greys (k .notes)) (omega arith) (λ pos i. absurd (omega arith))
-  mark-fits (Mark.wins e g h i) = next-fits n m p q (q .sense) (addOf (q .work) (q .grey)) (below-add (q .work) (q .grey) n greyed (k .work)) f i
+  mark-fits (Mark.wins e g h i) = next-fits n m p q (q .sense) (addOf (q .work) r) (below-add (q .work) r n (k .notes .is-cell .1) (k .work)) f i
   mark-fits (Mark.loses e g h i) = next-fits n m p q (q .sense) (q .work) (k .work) f i
 
 module _ {c j : ℕ} (m : Memory) (p r : ℕ) (w : sound.WellFormed m) (v : Ranged c j m) (mine : p < m .processes) (is : IsCell (m .cells) r) where

@@ -1,62 +1,89 @@
 -- "Marking a cell r": "Null: nothing. Otherwise: look at r's mark; read fM, stop if equal; read phase, stop if Idle; lock; look again; if the two looks agree, write mark :=
--- noted fM (r is now being greyed); unlock. .. Each of these seven is one step." For process p, which is q now, over memory m. Assumes nothing.
+-- noted fM (r is now being greyed); unlock. .. Each of these seven is one step." What a step offers, what it asks of memory, and how it goes on with what was seen.
+-- Assumes nothing.
 use mathlib.Core.Bool.{Bool, true, false}
 use Prim.Native.Nat.{ℕ}
 use lib.Dec.{eqb}
 use Rattle.base.specs.Pick.{pick, sameBit}
-use Rattle.cells.specs.Sets.{addOf}
+use Rattle.base.specs.Every.{_and_}
+use Rattle.cells.specs.Sets.{addOf, removeOf}
 use Rattle.buffers.specs.declared.Phase.{Phase}
 use Rattle.buffers.specs.declared.Phase.the-variants as phase
+use Rattle.buffers.specs.declared.Spot.the-variants as spot
+use Rattle.buffers.specs.declared.Store.{Store}
 use Rattle.buffers.specs.declared.Store.the-variants as store
-use Rattle.memory.specs.declared.Memory.{Memory}
-use Rattle.memory.specs.Looks.{lookMarkOf, lookSenseOf, lookPhaseOf}
-use Rattle.memory.specs.Steps.{lockOf, unlockOf, writeOf}
+use Rattle.buffers.specs.Stores.{bitOf, phaseOf}
+use Rattle.memory.specs.declared.asks.Ask.{Ask}
+use Rattle.memory.specs.declared.asks.Ask.the-variants as ask
+use Rattle.memory.specs.declared.asks.Change.the-variants as change
 use Rattle.state.specs.declared.Process.{Process}
-use Rattle.state.specs.declared.State.{State}
-use Rattle.state.specs.declared.Answer.{Answer}
-use Rattle.state.specs.Codes.{storeMarkOld, storeMarkY, noStage, lookStage, senseStage, phaseStage, lockStage, againStage, writeStage, unlockStage, malformed}
-use Rattle.state.specs.States.{at, marking, listing, refusedOf, actsOf}
+use Rattle.state.specs.declared.Choice.{Choice}
+use Rattle.state.specs.Codes.{storeMarkOld, storeMarkY, storeWrite, rootsMark, rootsFinish, row7Mark0, row7Read1, row7Mark1, row7Drop, noStage, lookStage, senseStage, phaseStage, lockStage, againStage, writeStage, unlockStage}
+use Rattle.state.specs.States.{at, leaving, marking, listing}
+use Rattle.state.specs.Choices.{isBlank, isNaming}
 
--- a mark step's answer: its number, 0 for taken; whether the mark is over; memory and the process after it
-pub record MarkAnswer : Type 0 where
-  pub no : ℕ
-  pub over : Bool
-  pub memory : Memory
-  pub process : Process
+-- the sites: a store's old value and its y, a root, and the two fields of row 7
+unfoldable pub isSite : ℕ → Bool
+isSite k =
+    pick (eqb k storeMarkOld) true
+    (pick (eqb k storeMarkY) true
+    (pick (eqb k rootsMark) true
+    (pick (eqb k row7Mark0) true
+    (pick (eqb k row7Mark1) true
+    false))))
 
--- the cell being marked: a running store's old value or y, else the one noted
-unfoldable pub markedCell : Process → ℕ
-markedCell q = pick (eqb (q .place) storeMarkOld) (q .old) (pick (eqb (q .place) storeMarkY) (q .y) (q .cell))
+-- ---- what is offered: "the choice x naming which remaining one at its first look"; else nothing
+unfoldable pub namesRoot : Process → Bool
+namesRoot q = eqb (q .place) rootsMark and eqb (q .stage) lookStage
+
+unfoldable pub markOffers : Choice → Process → Bool
+markOffers c q = pick (namesRoot q) (isNaming c (q .left)) (isBlank c)
+
+-- ---- what is asked. The cell being marked: a running store's old value or y, the root that is named, else the one noted
+unfoldable pub markedCell : Choice → Process → ℕ
+markedCell c q =
+    pick (eqb (q .place) storeMarkOld) (q .old)
+    (pick (eqb (q .place) storeMarkY) (q .y)
+    (pick (namesRoot q) (c .x)
+    (q .cell)))
+
+-- "look at r's mark; read fM, ..; read phase, ..; lock; look again; .. write mark := noted fM ..; unlock"
+unfoldable pub stageAsk : ℕ → Process → Ask
+stageAsk r q =
+    pick (eqb (q .stage) lookStage) (ask.Look (spot.Mark r))
+    (pick (eqb (q .stage) senseStage) (ask.Look spot.Sense)
+    (pick (eqb (q .stage) phaseStage) (ask.Look spot.Phase)
+    (pick (eqb (q .stage) lockStage) (ask.Make change.Lock)
+    (pick (eqb (q .stage) againStage) (ask.Look (spot.Mark r))
+    (pick (eqb (q .stage) writeStage) (ask.Make (change.Write (store.Mark r (q .sense))))
+    (pick (eqb (q .stage) unlockStage) (ask.Make change.Unlock)
+    ask.Nothing))))))
+
+unfoldable pub markAsk : Choice → Process → Ask
+markAsk c q = stageAsk (markedCell c q) q
+
+-- ---- how it goes on. The root that is named leaves those left, and is the cell to mark
+unfoldable pub namedRoot : Choice → Process → Process
+namedRoot c q = pick (namesRoot q) (leaving (removeOf (q .left) (c .x)) (marking (c .x) (q .look) (q .sense) (q .grey) q)) q
+
+-- the mark goes on at the stage j
+abbrev pub onStage : ℕ → Process → Process
+onStage j q = at (q .place) j q
 
 -- the mark is over: "notes once their .. mark .. is over (not the collector's noted fM ..)" are zero
 unfoldable pub overOf : ℕ → Process → Process
-overOf p q = pick (eqb p 0) (at (q .place) noStage (marking 0 false (q .sense) 0 q)) (at (q .place) noStage (marking 0 false false 0 q))
+overOf p q = pick (eqb p 0) (onStage noStage (marking 0 false (q .sense) 0 q)) (onStage noStage (marking 0 false false 0 q))
 
--- ---- answers: taken, and the mark goes on; taken, and the mark is over; refused
-abbrev pub goesOn : Memory → Process → MarkAnswer
-goesOn m q = record { no = 0; over = false; memory = m; process = q }
-
-abbrev pub ends : Memory → ℕ → Process → MarkAnswer
-ends m p q = record { no = 0; over = true; memory = m; process = overOf p q }
-
-abbrev pub stopsOf : ℕ → Memory → Process → MarkAnswer
-stopsOf n m q = record { no = n; over = false; memory = m; process = q }
-
--- ---- "look at r's mark"
-unfoldable pub lookStep : Memory → ℕ → Process → MarkAnswer
-lookStep m p q =
-    let l = lookMarkOf m p (markedCell q) in
-    pick (eqb (l .no) 0) (goesOn m (at (q .place) senseStage (marking (q .cell) (l .bit) (q .sense) (q .grey) q))) (stopsOf (l .no) m q)
+-- "look at r's mark"
+unfoldable pub lookGo : Bool → Process → Process
+lookGo b q = onStage senseStage (marking (q .cell) b (q .sense) (q .grey) q)
 
 -- "read fM, stop if equal"; "The collector's read of fM here renews its one noted fM."
-unfoldable pub senseStep : Memory → ℕ → Process → MarkAnswer
-senseStep m p q =
-    let l = lookSenseOf m p in
-    pick (eqb (l .no) 0)
-    (pick (sameBit (q .look) (l .bit))
-    (ends m p (marking (q .cell) (q .look) (l .bit) (q .grey) q))
-    (goesOn m (at (q .place) phaseStage (marking (q .cell) (q .look) (l .bit) (q .grey) q))))
-    (stopsOf (l .no) m q)
+unfoldable pub senseGo : ℕ → Bool → Process → Process
+senseGo p b q =
+    pick (sameBit (q .look) b)
+    (overOf p (marking (q .cell) (q .look) b (q .grey) q))
+    (onStage phaseStage (marking (q .cell) (q .look) b (q .grey) q))
 
 -- "read phase, stop if Idle"
 abbrev pub isIdle : Phase → Bool
@@ -65,52 +92,46 @@ isIdle phase.Init = false
 isIdle phase.Mark = false
 isIdle phase.Sweep = false
 
-unfoldable pub phaseStep : Memory → ℕ → Process → MarkAnswer
-phaseStep m p q =
-    let l = lookPhaseOf m p in
-    pick (eqb (l .no) 0) (pick (isIdle (l .phase)) (ends m p q) (goesOn m (at (q .place) lockStage q))) (stopsOf (l .no) m q)
-
--- "lock"
-unfoldable pub lockStep : Memory → ℕ → Process → MarkAnswer
-lockStep m p q = let k = lockOf m p in pick (eqb (k .no) 0) (goesOn (k .memory) (at (q .place) againStage q)) (stopsOf (k .no) m q)
+unfoldable pub phaseGo : ℕ → Phase → Process → Process
+phaseGo p h q = pick (isIdle h) (overOf p q) (onStage lockStage q)
 
 -- "look again; if the two looks agree, .."
-unfoldable pub againStep : Memory → ℕ → Process → MarkAnswer
-againStep m p q =
-    let l = lookMarkOf m p (markedCell q) in
-    pick (eqb (l .no) 0)
-    (pick (sameBit (q .look) (l .bit)) (goesOn m (at (q .place) writeStage q)) (goesOn m (at (q .place) unlockStage q)))
-    (stopsOf (l .no) m q)
+unfoldable pub againGo : Bool → Process → Process
+againGo b q = pick (sameBit (q .look) b) (onStage writeStage q) (onStage unlockStage q)
 
 -- ".. write mark := noted fM (r is now being greyed)"
-unfoldable pub writeStep : Memory → ℕ → Process → MarkAnswer
-writeStep m p q =
-    let k = writeOf m p (record { store = store.Mark (markedCell q) (q .sense) }) in
-    pick (eqb (k .no) 0)
-    (goesOn (k .memory) (at (q .place) unlockStage (marking (q .cell) (q .look) (q .sense) (markedCell q) q)))
-    (stopsOf (k .no) m q)
+unfoldable pub writeGo : ℕ → Process → Process
+writeGo r q = onStage unlockStage (marking (q .cell) (q .look) (q .sense) r q)
 
 -- "unlock. The unlock also puts a winner's r on its list and ends its greying."
-unfoldable pub unlockStep : Memory → ℕ → Process → MarkAnswer
-unlockStep m p q =
-    let k = unlockOf m p in
-    pick (eqb (k .no) 0) (ends (k .memory) p (listing (addOf (q .work) (q .grey)) (q .roots) q)) (stopsOf (k .no) m q)
+unfoldable pub unlockGo : ℕ → ℕ → Process → Process
+unlockGo p r q = pick (eqb (q .grey) 0) (overOf p q) (overOf p (listing (addOf (q .work) r) (q .roots) q))
 
--- the step at the stage of a mark; a stage that is none is malformed
-unfoldable pub markOf : Memory → ℕ → Process → MarkAnswer
-markOf m p q =
-    pick (eqb (q .stage) lookStage) (lookStep m p q)
-    (pick (eqb (q .stage) senseStage) (senseStep m p q)
-    (pick (eqb (q .stage) phaseStage) (phaseStep m p q)
-    (pick (eqb (q .stage) lockStage) (lockStep m p q)
-    (pick (eqb (q .stage) againStage) (againStep m p q)
-    (pick (eqb (q .stage) writeStage) (writeStep m p q)
-    (pick (eqb (q .stage) unlockStage) (unlockStep m p q)
-    (stopsOf malformed m q)))))))
+-- a step of the mark of r by p, at its stage, with what was seen
+unfoldable pub stageGo : ℕ → ℕ → Store → Process → Process
+stageGo p r v q =
+    pick (eqb (q .stage) lookStage) (lookGo (bitOf v) q)
+    (pick (eqb (q .stage) senseStage) (senseGo p (bitOf v) q)
+    (pick (eqb (q .stage) phaseStage) (phaseGo p (phaseOf v) q)
+    (pick (eqb (q .stage) lockStage) (onStage againStage q)
+    (pick (eqb (q .stage) againStage) (againGo (bitOf v) q)
+    (pick (eqb (q .stage) writeStage) (writeGo r q)
+    (pick (eqb (q .stage) unlockStage) (unlockGo p r q)
+    q))))))
 
--- the answer k of a mark step as the whole answer of process p, which goes on by `after` once the mark is over
-abbrev pub markOver : State → ℕ → (Process → Process) → MarkAnswer → Answer
-markOver s p after k =
-    pick (eqb (k .no) 0)
-    (pick (k .over) (actsOf s (k .memory) p (after (k .process))) (actsOf s (k .memory) p (k .process)))
-    (refusedOf (k .no) s)
+-- where the process goes when the mark of its site is over: "then mark the old; mark y; write the field"; "mark each root"; "read field 0, mark it, read field 1, mark it, drop x"
+unfoldable pub pastOf : Process → Process
+pastOf q =
+    pick (eqb (q .place) storeMarkOld) (pick (eqb (q .y) 0) (at storeWrite (q .stage) q) (at storeMarkY lookStage q))
+    (pick (eqb (q .place) storeMarkY) (at storeWrite (q .stage) q)
+    (pick (eqb (q .place) rootsMark) (pick (eqb (q .left) 0) (at rootsFinish (q .stage) q) (onStage lookStage q))
+    (pick (eqb (q .place) row7Mark0) (at row7Read1 (q .stage) q)
+    (pick (eqb (q .place) row7Mark1) (at row7Drop (q .stage) q)
+    q))))
+
+-- a mark that is over has no stage
+unfoldable pub pastOver : Process → Process
+pastOver q = pick (eqb (q .stage) noStage) (pastOf q) q
+
+unfoldable pub markGo : Choice → Store → Process → Process
+markGo c v q = pastOver (stageGo (c .process) (markedCell c q) v (namedRoot c q))

@@ -5,27 +5,27 @@
 --     unlocked-all, lock-again                     after an unlock nobody is blocked, and anybody can lock
 use mathlib.Core.Path.{_≡_, ap}
 use mathlib.Core.Bool.{true, false}
-use Prim.Native.Nat.{ℕ, _+_, _≤_, _<_}
+use Prim.Native.Nat.{ℕ, _+_}
 use native.Mathlib.Omega.{arith}
 use lib.ListN.{length}
-use Rattle.buffers.specs.declared.Entry.{Entry}
 use Rattle.memory.specs.declared.Memory.{Memory}
-use Rattle.memory.specs.Memories.{maxCells, byBlocked, taken, withLock, blockedOf, allocatedOf}
-use Rattle.memory.specs.Steps.{writeOf, commitOf, lockOf, allocateOf, freeOf}
+use Rattle.memory.specs.Memories.{byBlocked, taken, withLock, blockedOf}
+use Rattle.memory.specs.Steps.{lockOf}
+use Rattle.memory.specs.Laws.{RoomAgain, CellAgain}
 use Rattle.memory.proofs.Shapes.{Shaped, pending-fits}
 use Rattle.memory.proofs.Blocks.{free-unblocked, own-unblocked, other-blocked}
 use Rattle.memory.proofs.Keeps.{commit-shaped}
 use Rattle.memory.proofs.Effects.{Locked, Unlocked, commit-taken, free-taken}
 use Rattle.memory.proofs.Refusals.{write-goes, allocate-goes, lock-goes, lock-no}
 
-pub write-again : {m : Memory} (p : ℕ) (e : Entry) {n : Memory} → Shaped m → commitOf m p ≡ taken n → writeOf n p e ≡ taken (writeOf n p e .memory)
-write-again {m} p e {n} z h =
+pub write-again : RoomAgain
+write-again m n p e z h =
     let w = commit-taken p z h in
     let s : Shaped n = rw h at (commit-shaped m z p) in
     write-goes n p e s (w .process) (rw (w .own) (omega (arith, pending-fits m z p, ap length (w .before))))
 
-pub allocate-again : {m : Memory} (p q c : ℕ) {n : Memory} → Shaped m → 0 < c → c ≤ maxCells → freeOf m p c ≡ taken n → blockedOf n q ≡ false → allocateOf n q c ≡ taken (allocatedOf n c)
-allocate-again p q c {n} z pos l h b = allocate-goes n q c b (free-taken p c z pos l h .after .used)
+pub allocate-again : CellAgain
+allocate-again m n p q c z pos l h b = allocate-goes n q c b (free-taken p c z pos l h .after .used)
 
 module _ {m : Memory} {p : ℕ} {n : Memory} where
   pub locked-own : Locked m p n → blockedOf n p ≡ false

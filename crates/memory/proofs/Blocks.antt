@@ -6,13 +6,14 @@
 --     other-blocked               and everybody else is by it
 use mathlib.Core.Path.{_≡_, refl, sym, _∙_}
 use mathlib.Core.Bool.{Bool, true, false, false≢true}
-use mathlib.Core.Logic.{_↔_, _⊎_, inl, inr}
+use mathlib.Core.Logic.{_⊎_, inl, inr}
 use Prim.Native.Nat.{ℕ, _+_}
 use native.Mathlib.Omega.{arith}
 use lib.Dec.{eqb}
 use borrow.Author.Tests.{eqb-true, eqb-false, eq-eqb, ne-eqb}
 use Rattle.memory.specs.declared.Memory.{Memory}
 use Rattle.memory.specs.Memories.{blockedOf}
+use Rattle.memory.specs.Laws.{BlockedExactly, UnblockedExactly}
 
 pub blocked-lock : (m n : Memory) (p : ℕ) → n .lock ≡ m .lock → blockedOf n p ≡ blockedOf m p
 unfolding blockedOf
@@ -31,17 +32,17 @@ module _ (m : Memory) (p : ℕ) where
   unfolding blockedOf
   other-blocked e n = rw (ne-eqb (m .lock) 0 e, ne-eqb (m .lock) (p + 1) n)
 
-  pub blocked-is : blockedOf m p ≡ true ↔ ((m .lock ≡ 0 → ⊥) × (m .lock ≡ p + 1 → ⊥))
-  blocked-is = (λ b. (λ e. false≢true (sym (free-unblocked e) ∙ b), λ e. false≢true (sym (own-unblocked e) ∙ b)), λ k. other-blocked (k .0) (k .1))
+pub blocked-is : BlockedExactly
+blocked-is m p = (λ b. (λ e. false≢true (sym (free-unblocked m p e) ∙ b), λ e. false≢true (sym (own-unblocked m p e) ∙ b)), λ k. other-blocked m p (k .0) (k .1))
 
-  pub unblocked-is : blockedOf m p ≡ false ↔ ((m .lock ≡ 0) ⊎ (m .lock ≡ p + 1))
-  unblocked-is = (λ b. go b (eqb (m .lock) 0) refl (eqb (m .lock) (p + 1)) refl, λ k. back k)
-    where
-      go : blockedOf m p ≡ false → (t : Bool) → eqb (m .lock) 0 ≡ t → (u : Bool) → eqb (m .lock) (p + 1) ≡ u → (m .lock ≡ 0) ⊎ (m .lock ≡ p + 1)
-      go b true e u f = inl (eqb-true (m .lock) 0 e)
-      go b false e true f = inr (eqb-true (m .lock) (p + 1) f)
-      go b false e false f = absurd (false≢true (sym b ∙ other-blocked (eqb-false (m .lock) 0 e) (eqb-false (m .lock) (p + 1) f)))
+pub unblocked-is : UnblockedExactly
+unblocked-is m p = (λ b. go b (eqb (m .lock) 0) refl (eqb (m .lock) (p + 1)) refl, λ k. back k)
+  where
+    go : blockedOf m p ≡ false → (t : Bool) → eqb (m .lock) 0 ≡ t → (u : Bool) → eqb (m .lock) (p + 1) ≡ u → (m .lock ≡ 0) ⊎ (m .lock ≡ p + 1)
+    go b true e u f = inl (eqb-true (m .lock) 0 e)
+    go b false e true f = inr (eqb-true (m .lock) (p + 1) f)
+    go b false e false f = absurd (false≢true (sym b ∙ other-blocked m p (eqb-false (m .lock) 0 e) (eqb-false (m .lock) (p + 1) f)))
 
-      back : (m .lock ≡ 0) ⊎ (m .lock ≡ p + 1) → blockedOf m p ≡ false
-      back (inl e) = free-unblocked e
-      back (inr e) = own-unblocked e
+    back : (m .lock ≡ 0) ⊎ (m .lock ≡ p + 1) → blockedOf m p ≡ false
+    back (inl e) = free-unblocked m p e
+    back (inr e) = own-unblocked m p e

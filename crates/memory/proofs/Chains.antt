@@ -1,13 +1,13 @@
--- The numbers that a chain of tests gives, each with what it is given for: exactly then, and no other number. Assumes nothing.
+-- The numbers that a chain of tests gives, each with what it is given for (specs/Numbers). Assumes nothing.
 --     Decides           what a test says where it holds, and where not
 --     itself            a test that stands for itself
---     One, Two, Three   the number is the first exactly if the first test's fact holds, and so on in the order of the tests
---     one, two, three   so it is for a number picked by tests
+--     one, two, three   One, Two, Three hold of a number picked by tests
 use mathlib.Core.Path.{_≡_, refl, sym, _∙_}
 use mathlib.Core.Bool.{Bool, true, false, false≢true}
 use mathlib.Core.Logic.{_↔_, _⊎_, inl, inr, ⊎-elim, Iff·rfl}
 use Prim.Native.Nat.{ℕ}
 use Rattle.base.specs.Pick.{pick}
+pub use Rattle.memory.specs.Numbers.{One, Two, Three}
 
 pub record Decides (t : Bool) (P Q : Type 0) : Type 0 where
   pub holds : t ≡ true ↔ P
@@ -15,27 +15,6 @@ pub record Decides (t : Bool) (P Q : Type 0) : Type 0 where
 
 pub itself : (t : Bool) → Decides t (t ≡ true) (t ≡ false)
 itself t = record { holds = Iff·rfl; fails = Iff·rfl }
-
--- n is a where P, and b where P′
-pub record One (n a b : ℕ) (P P′ : Type 0) : Type 0 where
-  pub first : n ≡ a ↔ P
-  pub second : n ≡ b ↔ P′
-  pub only : (n ≡ a) ⊎ (n ≡ b)
-
--- n is a where P, b where P′ and Q, c where P′ and Q′
-pub record Two (n a b c : ℕ) (P P′ Q Q′ : Type 0) : Type 0 where
-  pub first : n ≡ a ↔ P
-  pub second : n ≡ b ↔ (P′ × Q)
-  pub third : n ≡ c ↔ (P′ × Q′)
-  pub only : (n ≡ a) ⊎ ((n ≡ b) ⊎ (n ≡ c))
-
--- n is a where P, b where P′ and Q, c where P′, Q′ and R, d where P′, Q′ and R′
-pub record Three (n a b c d : ℕ) (P P′ Q Q′ R R′ : Type 0) : Type 0 where
-  pub first : n ≡ a ↔ P
-  pub second : n ≡ b ↔ (P′ × Q)
-  pub third : n ≡ c ↔ (P′ × Q′ × R)
-  pub fourth : n ≡ d ↔ (P′ × Q′ × R′)
-  pub only : (n ≡ a) ⊎ ((n ≡ b) ⊎ ((n ≡ c) ⊎ (n ≡ d)))
 
 -- a fact that is there, and one that is not
 here : {A B : Type 0} → A → B → A ↔ B

@@ -1,4 +1,4 @@
--- What a step that is taken asks, what it changes, and what stays: a record for each, over the memory before and the memory after. Assumes nothing.
+-- What a step that is taken asks, what it changes, and what stays: the records of specs/Effects. Assumes nothing.
 --     is-taken, is-refused              an answer by its number and its memory
 --     write-taken                       Written: the entry is the last of the writer's list
 --     commit-taken                      Committed: the oldest leaves the list and is held at its spot
@@ -11,11 +11,10 @@
 use mathlib.Core.Path.{_≡_, refl, sym, _∙_, ap}
 use mathlib.Core.Bool.{Bool, true, false}
 use mathlib.Core.Logic.{⊎-elim}
-use mathlib.Core.List.{List, [], _∷_, _++_}
+use mathlib.Core.List.{List, [], _∷_}
 use Prim.Native.Nat.{ℕ, _+_, _≤_, _<_}
 use native.Mathlib.Omega.{arith}
 use lib.Dec.{eqb, leb}
-use lib.ListN.{length}
 use borrow.Author.Tests.{leb-false, eqb-true, eqb-false}
 use Rattle.base.specs.Pick.{pick}
 use Rattle.base.proofs.Picking.{picked}
@@ -29,13 +28,14 @@ use Rattle.buffers.specs.declared.Spot.{Spot}
 use Rattle.buffers.specs.declared.Entry.{Entry}
 use Rattle.buffers.specs.declared.Buffer.{Buffer}
 use Rattle.buffers.specs.Stores.{spotOf, hitsOf}
-use Rattle.buffers.specs.Buffers.{maxStores, pushOf, popOf}
+use Rattle.buffers.specs.Buffers.{pushOf, popOf}
 use Rattle.buffers.proofs.Fifos.{push-room, push-last, pop-oldest}
 use Rattle.memory.specs.declared.Memory.{Memory}
 use Rattle.memory.specs.declared.Done.{Done}
-use Rattle.memory.specs.Memories.{maxCells, maxProcesses, asTaken, taken, refused, withUsed, withMarks, withField0, withField1, withLock, putCell, usedOf, markOf, fieldOf, bufferOf, withBuffer, pendingLenOf, blockedOf, thereOf, heldOf, appliedOf, allocatedOf, freedOf}
+use Rattle.memory.specs.Memories.{maxCells, maxProcesses, asTaken, taken, refused, withUsed, withMarks, withField0, withField1, withLock, putCell, usedOf, bufferOf, withBuffer, pendingLenOf, blockedOf, thereOf, heldOf, appliedOf, allocatedOf, freedOf}
 use Rattle.memory.specs.Steps.{writeOf, commitOf, fenceOf, lockOf, unlockOf, allocateOf, freeOf}
 use Rattle.memory.specs.Views.{pendingFor}
+pub use Rattle.memory.specs.Effects.{Written, Committed, Fenced, Relocked, Locked, Unlocked, Reset, Allocated, Freed}
 use Rattle.memory.proofs.Shapes.{Shaped, pending-empty, pending-absent, there-or-not, buffer-same, buffer-other}
 use Rattle.memory.proofs.Spots.{Plain, Alike, Settled, cell-same, cell-other, held-same, held-applied, applied-settled, applied-lock, applied-buffers}
 
@@ -93,15 +93,6 @@ module _ (m : Memory) (p : ℕ) {n : Memory} where
       (eqb-false (pendingLenOf m p) 0 (a .0), b .0, c .0, left (c .1))
 
 -- ---- write
-pub record Written (m : Memory) (p : ℕ) (e : Entry) (n : Memory) : Type 0 where
-  pub process : p < maxProcesses
-  pub room : length (pendingFor m p) < maxStores
-  pub own : pendingFor n p ≡ pendingFor m p ++ (e ∷ [])
-  pub others : (q : ℕ) → (q ≡ p → ⊥) → pendingFor n q ≡ pendingFor m q
-  pub lock : n .lock ≡ m .lock
-  pub alike : Alike m n
-  pub settled : Settled m n
-
 buffered : (m : Memory) (p : ℕ) (b : Buffer) → Alike m (withBuffer m p b)
 buffered m p b = record { marks = refl; field0 = refl; field1 = refl; fm = refl; fa = refl; phase = refl }
 
@@ -123,22 +114,11 @@ write-taken {m} p e {n} z h =
     })
 
 -- ---- fence, lock, unlock
-pub record Fenced (m : Memory) (p : ℕ) (n : Memory) : Type 0 where
-  pub empty : pendingFor m p ≡ []
-  pub same : n ≡ m
-
 pub fence-taken : {m : Memory} (p : ℕ) {n : Memory} → Shaped m → fenceOf m p ≡ taken n → Fenced m p n
 unfolding fenceOf
 fence-taken {m} p {n} z h =
     let a = not-second (eqb (pendingLenOf m p) 0) (no-taken (λ x. omega arith)) h in
     record { empty = pending-empty m z p .0 (eqb-true (pendingLenOf m p) 0 (a .0)); same = sym (left (a .1)) }
-
--- the lock alone has changed
-pub record Relocked (m : Memory) (k : ℕ) (n : Memory) : Type 0 where
-  pub lock : n .lock ≡ k
-  pub pending : (q : ℕ) → pendingFor n q ≡ pendingFor m q
-  pub alike : Alike m n
-  pub settled : Settled m n
 
 relocked : {m : Memory} (k : ℕ) {n : Memory} → withLock m k ≡ n → Relocked m k n
 unfolding pendingFor
@@ -151,39 +131,16 @@ relocked {m} k {n} q =
       settled = record { cells = refl; processes = refl; used = refl };
     })
 
-pub record Locked (m : Memory) (p : ℕ) (n : Memory) : Type 0 where
-  pub free : m .lock ≡ 0
-  pub after : Relocked m (p + 1) n
-
 pub lock-taken : {m : Memory} (p : ℕ) {n : Memory} → lockOf m p ≡ taken n → Locked m p n
 unfolding lockOf
 lock-taken {m} p {n} h =
     let a = not-second (eqb (m .lock) 0) (no-taken (λ x. omega arith)) h in
     record { free = eqb-true (m .lock) 0 (a .0); after = relocked (p + 1) (left (a .1)) }
 
-pub record Unlocked (m : Memory) (p : ℕ) (n : Memory) : Type 0 where
-  pub empty : pendingFor m p ≡ []
-  pub after : Relocked m 0 n
-
 pub unlock-taken : {m : Memory} (p : ℕ) {n : Memory} → Shaped m → unlockOf m p ≡ taken n → Unlocked m p n
 unlock-taken {m} p {n} z h = let a = unlock-went m p h in record { empty = pending-empty m z p .0 (a .0); after = relocked 0 (a .1) }
 
 -- ---- allocate, free: one cell is occupied or free from now on, with mark b and null fields
-pub record Reset (m : Memory) (c : ℕ) (u b : Bool) (n : Memory) : Type 0 where
-  pub used : usedOf n c ≡ u
-  pub used-others : (d : ℕ) → (d ≡ c → ⊥) → usedOf n d ≡ usedOf m d
-  pub mark : markOf n c ≡ b
-  pub marks-others : (d : ℕ) → (d ≡ c → ⊥) → markOf n d ≡ markOf m d
-  pub fields : (f : ℕ) → fieldOf n c f ≡ 0
-  pub fields-others : (d f : ℕ) → (d ≡ c → ⊥) → fieldOf n d f ≡ fieldOf m d f
-  pub fm : n .fm ≡ m .fm
-  pub fa : n .fa ≡ m .fa
-  pub phase : n .phase ≡ m .phase
-  pub lock : n .lock ≡ m .lock
-  pub cells : n .cells ≡ m .cells
-  pub processes : n .processes ≡ m .processes
-  pub pending : (q : ℕ) → pendingFor n q ≡ pendingFor m q
-
 module _ (m : Memory) (z : Shaped m) (c : ℕ) (pos : 0 < c) (l : c ≤ maxCells) where
   reset : (k : ℕ) (u b : Bool) → memberOf k c ≡ u → ((d : ℕ) → (d ≡ c → ⊥) → memberOf k d ≡ usedOf m d) → Reset m c u b (withField1 (withField0 (withMarks (withUsed m k) (putCell (m .marks) c b)) (putCell (m .field0) c 0)) (putCell (m .field1) c 0))
   unfolding pendingFor
@@ -210,17 +167,6 @@ module _ (m : Memory) (z : Shaped m) (c : ℕ) (pos : 0 < c) (l : c ≤ maxCells
   others-removed : (d : ℕ) → (d ≡ c → ⊥) → memberOf (removeOf (m .used) c) d ≡ usedOf m d
   others-removed d ne = same-test (memberOf (removeOf (m .used) c) d) (usedOf m d) (λ i. in-remove (m .used) c d i .0) (λ i. remove-keeps (m .used) c d i (λ e. ne (sym e)))
 
-pub record Allocated (m : Memory) (p c : ℕ) (n : Memory) : Type 0 where
-  pub unblocked : blockedOf m p ≡ false
-  pub free : usedOf m c ≡ false
-  pub used : n .used ≡ addOf (m .used) c
-  pub after : Reset m c true (m .fa) n
-
-pub record Freed (m : Memory) (p c : ℕ) (n : Memory) : Type 0 where
-  pub unblocked : blockedOf m p ≡ false
-  pub used : n .used ≡ removeOf (m .used) c
-  pub after : Reset m c false false n
-
 module _ {m : Memory} (p c : ℕ) {n : Memory} (z : Shaped m) (pos : 0 < c) (l : c ≤ maxCells) where
   pub allocate-taken : allocateOf m p c ≡ taken n → Allocated m p c n
   allocate-taken h =
@@ -233,19 +179,6 @@ module _ {m : Memory} (p c : ℕ) {n : Memory} (z : Shaped m) (pos : 0 < c) (l :
       rw (← a .1) (record { unblocked = a .0; used = refl; after = reset m z c pos l (removeOf (m .used) c) false false (remove-gone (m .used) c) (others-removed m z c pos l) })
 
 -- ---- commit
-pub record Committed (m : Memory) (p : ℕ) (n : Memory) : Type 0 where
-  pub oldest : Entry
-  pub rest : List Entry
-  pub process : p < maxProcesses
-  pub unblocked : blockedOf m p ≡ false
-  pub there : thereOf m (spotOf (oldest .store)) ≡ true
-  pub before : pendingFor m p ≡ oldest ∷ rest
-  pub own : pendingFor n p ≡ rest
-  pub others : (q : ℕ) → (q ≡ p → ⊥) → pendingFor n q ≡ pendingFor m q
-  pub lock : n .lock ≡ m .lock
-  pub settled : Settled m n
-  pub alike : Alike (appliedOf m (oldest .store)) n
-
 applied-over : (m : Memory) (p : ℕ) (b : Buffer) (s : Store) → appliedOf (withBuffer m p b) s ≡ withBuffer (appliedOf m s) p b
 unfolding appliedOf
 applied-over m p b (store.Mark c x) = refl

@@ -10,3 +10,6 @@ pub mod Refusals
 pub mod Sights
 pub mod Views
 pub mod Again
+pub mod Tellings
+pub mod Laws
+pub mod SetterLaws

@@ -1,4 +1,4 @@
--- Which number each step gives, exactly when, and what comes with it. One, Two and Three read in the order of the tests (Chains). Assumes nothing.
+-- Which number each step gives, exactly when (specs/Refusals), and what comes with it. Assumes nothing.
 --     write-no, commit-no, fence-no, lock-no, unlock-no, allocate-no, free-no                     the numbers of a step
 --     write-same, commit-same, lock-same, unlock-same, allocate-same, free-same                   a refused step hands the same memory back
 --     fence-same                                                                                  a fence does, taken or refused
@@ -24,9 +24,10 @@ use Rattle.memory.specs.declared.Done.{Done}
 use Rattle.memory.specs.Memories.{maxProcesses, asTaken, byProcess, byNonePending, byBlocked, byPending, byFull, byOccupied, byFree, taken, refused, withLock, usedOf, bufferOf, withBuffer, pendingLenOf, blockedOf, thereOf, appliedOf, allocatedOf, freedOf}
 use Rattle.memory.specs.Steps.{writeOf, commitOf, fenceOf, lockOf, unlockOf, allocateOf, freeOf}
 use Rattle.memory.specs.Views.{pendingFor}
+use Rattle.memory.specs.Refusals.{HandsBack, WriteNumbers, CommitNumbers, FenceNumbers, LockNumbers, UnlockNumbers, AllocateNumbers, FreeNumbers}
 use Rattle.memory.proofs.Shapes.{Shaped, oldestOf, pending-is, pending-empty, pending-absent, there-or-not}
 use Rattle.memory.proofs.Effects.{is-taken}
-use Rattle.memory.proofs.Chains.{Decides, itself, One, Two, Three, one, two, three}
+use Rattle.memory.proofs.Chains.{Decides, itself, one, two, three}
 
 -- ---- the number of what is picked
 no-pick : (t : Bool) (x y : Done) {a b : ℕ} → x .no ≡ a → y .no ≡ b → pick t x y .no ≡ pick t a b
@@ -60,23 +61,23 @@ module _ (m : Memory) (p : ℕ) where
       go [] e = absurd (ne e)
       go (x ∷ l) e = ⊎-elim (λ i. rw e (ap (λ (k : Entry). k .store) (pop-oldest (bufferOf m p) (z .sized p i) e .1))) (λ i. absurd (ne (pending-absent m z p i))) (there-or-not p)
 
-  pub fence-no : Shaped m → One (fenceOf m p .no) asTaken byPending (pendingFor m p ≡ []) (pendingFor m p ≡ [] → ⊥)
+  pub fence-no : Shaped m → FenceNumbers m p
   unfolding fenceOf
   fence-no z = one asTaken byPending (eqb (pendingLenOf m p) 0) (λ x. omega arith) (no-pick (eqb (pendingLenOf m p) 0) (taken m) (refused byPending m) refl refl) (pending-test z)
 
-  pub unlock-no : Shaped m → One (unlockOf m p .no) asTaken byPending (pendingFor m p ≡ []) (pendingFor m p ≡ [] → ⊥)
+  pub unlock-no : Shaped m → UnlockNumbers m p
   unfolding unlockOf
   unlock-no z = one asTaken byPending (eqb (pendingLenOf m p) 0) (λ x. omega arith) (no-pick (eqb (pendingLenOf m p) 0) (taken (withLock m 0)) (refused byPending m) refl refl) (pending-test z)
 
-  pub lock-no : One (lockOf m p .no) asTaken byBlocked (m .lock ≡ 0) (m .lock ≡ 0 → ⊥)
+  pub lock-no : LockNumbers m p
   unfolding lockOf
   lock-no = one asTaken byBlocked (eqb (m .lock) 0) (λ x. omega arith) (no-pick (eqb (m .lock) 0) (taken (withLock m (p + 1))) (refused byBlocked m) refl refl) (zero-test (m .lock))
 
-  pub free-no : (c : ℕ) → One (freeOf m p c .no) byBlocked asTaken (blockedOf m p ≡ true) (blockedOf m p ≡ false)
+  pub free-no : (c : ℕ) → FreeNumbers m p c
   unfolding freeOf
   free-no c = one byBlocked asTaken (blockedOf m p) (λ x. omega arith) (no-pick (blockedOf m p) (refused byBlocked m) (taken (freedOf m c)) refl refl) (itself (blockedOf m p))
 
-  pub allocate-no : (c : ℕ) → Two (allocateOf m p c .no) byBlocked byOccupied asTaken (blockedOf m p ≡ true) (blockedOf m p ≡ false) (usedOf m c ≡ true) (usedOf m c ≡ false)
+  pub allocate-no : (c : ℕ) → AllocateNumbers m p c
   unfolding allocateOf
   allocate-no c =
       two byBlocked byOccupied asTaken (blockedOf m p) (usedOf m c) (λ x. omega arith) (λ x. omega arith) (λ x. omega arith)
@@ -84,7 +85,7 @@ module _ (m : Memory) (p : ℕ) where
       (itself (blockedOf m p))
       (λ x. itself (usedOf m c))
 
-  pub write-no : (e : Entry) → Shaped m → Two (writeOf m p e .no) byProcess asTaken byFull (maxProcesses ≤ p) (p < maxProcesses) (length (pendingFor m p) < maxStores) (length (pendingFor m p) ≡ maxStores)
+  pub write-no : (e : Entry) → Shaped m → WriteNumbers m p e
   unfolding writeOf
   write-no e z =
       let b = pushOf (bufferOf m p) e in
@@ -93,7 +94,7 @@ module _ (m : Memory) (p : ℕ) where
       (process-test p)
       (λ l. rw (pending-is m p) (record { holds = push-room (bufferOf m p) e (z .sized p l); fails = push-full (bufferOf m p) e (z .sized p l) }))
 
-  pub commit-no : Shaped m → Three (commitOf m p .no) byNonePending byBlocked asTaken byFree (pendingFor m p ≡ []) (pendingFor m p ≡ [] → ⊥) (blockedOf m p ≡ true) (blockedOf m p ≡ false) (thereOf m (spotOf (oldestOf (pendingFor m p))) ≡ true) (thereOf m (spotOf (oldestOf (pendingFor m p))) ≡ false)
+  pub commit-no : Shaped m → CommitNumbers m p
   unfolding commitOf
   commit-no z =
       let b = popOf (bufferOf m p) in
@@ -112,47 +113,44 @@ module _ (m : Memory) (p : ℕ) where
       (λ ne. equally (ap (λ (s : Store). thereOf m (spotOf s)) (oldest-is z ne)))
 
 -- ---- a refused step hands the same memory back
-abbrev Honest : Memory → Done → Type 0
-Honest m d = (d .no ≡ asTaken → ⊥) → d .memory ≡ m
-
 module _ (m : Memory) (p : ℕ) where
-  back : (k : ℕ) → Honest m (refused k m)
+  back : (k : ℕ) → HandsBack m (refused k m)
   back k = λ h. refl
 
-  went : (n : Memory) → Honest m (taken n)
+  went : (n : Memory) → HandsBack m (taken n)
   went n = λ h. absurd (h refl)
 
-  pub write-same : (e : Entry) → (writeOf m p e .no ≡ asTaken → ⊥) → writeOf m p e .memory ≡ m
+  pub write-same : (e : Entry) → HandsBack m (writeOf m p e)
   unfolding writeOf
-  write-same e = picked (Honest m) (leb maxProcesses p) (back byProcess) (picked (Honest m) (pushOf (bufferOf m p) e .taken) (went _) (back byFull))
+  write-same e = picked (HandsBack m) (leb maxProcesses p) (back byProcess) (picked (HandsBack m) (pushOf (bufferOf m p) e .taken) (went _) (back byFull))
 
-  pub commit-same : (commitOf m p .no ≡ asTaken → ⊥) → commitOf m p .memory ≡ m
+  pub commit-same : HandsBack m (commitOf m p)
   unfolding commitOf
   commit-same =
-      picked (Honest m) (eqb (pendingLenOf m p) 0) (back byNonePending)
-      (picked (Honest m) (blockedOf m p) (back byBlocked)
-      (picked (Honest m) (thereOf m (spotOf (popOf (bufferOf m p) .entry .store))) (went _) (back byFree)))
+      picked (HandsBack m) (eqb (pendingLenOf m p) 0) (back byNonePending)
+      (picked (HandsBack m) (blockedOf m p) (back byBlocked)
+      (picked (HandsBack m) (thereOf m (spotOf (popOf (bufferOf m p) .entry .store))) (went _) (back byFree)))
 
   -- taken or refused
   pub fence-same : fenceOf m p .memory ≡ m
   unfolding fenceOf
   fence-same = picked (λ (d : Done). d .memory ≡ m) (eqb (pendingLenOf m p) 0) refl refl
 
-  pub lock-same : (lockOf m p .no ≡ asTaken → ⊥) → lockOf m p .memory ≡ m
+  pub lock-same : HandsBack m (lockOf m p)
   unfolding lockOf
-  lock-same = picked (Honest m) (eqb (m .lock) 0) (went _) (back byBlocked)
+  lock-same = picked (HandsBack m) (eqb (m .lock) 0) (went _) (back byBlocked)
 
-  pub unlock-same : (unlockOf m p .no ≡ asTaken → ⊥) → unlockOf m p .memory ≡ m
+  pub unlock-same : HandsBack m (unlockOf m p)
   unfolding unlockOf
-  unlock-same = picked (Honest m) (eqb (pendingLenOf m p) 0) (went _) (back byPending)
+  unlock-same = picked (HandsBack m) (eqb (pendingLenOf m p) 0) (went _) (back byPending)
 
-  pub allocate-same : (c : ℕ) → (allocateOf m p c .no ≡ asTaken → ⊥) → allocateOf m p c .memory ≡ m
+  pub allocate-same : (c : ℕ) → HandsBack m (allocateOf m p c)
   unfolding allocateOf
-  allocate-same c = picked (Honest m) (blockedOf m p) (back byBlocked) (picked (Honest m) (usedOf m c) (back byOccupied) (went _))
+  allocate-same c = picked (HandsBack m) (blockedOf m p) (back byBlocked) (picked (HandsBack m) (usedOf m c) (back byOccupied) (went _))
 
-  pub free-same : (c : ℕ) → (freeOf m p c .no ≡ asTaken → ⊥) → freeOf m p c .memory ≡ m
+  pub free-same : (c : ℕ) → HandsBack m (freeOf m p c)
   unfolding freeOf
-  free-same c = picked (Honest m) (blockedOf m p) (back byBlocked) (went _)
+  free-same c = picked (HandsBack m) (blockedOf m p) (back byBlocked) (went _)
 
 -- ---- a step that is asked right is taken
 module _ (m : Memory) (p : ℕ) where

@@ -1,7 +1,5 @@
--- What every law of memory may take for granted, and what a process has pending and sees. Assumes nothing.
---     Shaped                       arrays have their lengths, buffers are sized, occupied cells are within the arrays
+-- What a process has pending and sees, of a memory that has its shape (specs/Shapes). Assumes nothing.
 --     pending-is, view-is          `pendingFor` and `viewOf` by the definitions of specs/
---     oldestOf                     the store to be committed first
 --     there-or-not                 a process is one of those there can be, or it is not
 --     pending-absent               a process that is not there has nothing pending
 --     pending-fits                 no process has more pending than fits
@@ -14,9 +12,9 @@
 --     buffer-absent, buffer-same, buffer-other     the buffer of a process that is not there; a buffer replaced is the only one that changes
 --     pending-same                 the lists are decided by the buffers
 use mathlib.Core.Path.{_≡_, refl, _∙_}
-use mathlib.Core.Bool.{true, false}
+use mathlib.Core.Bool.{false}
 use mathlib.Core.Logic.{_↔_, _⊎_, inl, inr, ⊎-elim, by-cases}
-use mathlib.Core.List.{List, [], _∷_, List·Memᴰ}
+use mathlib.Core.List.{[], List·Memᴰ}
 use Prim.Native.Nat.{ℕ, _≤_, _<_}
 use native.Mathlib.Omega.{arith}
 use native.Mathlib.Decide.{decLt}
@@ -30,25 +28,14 @@ use Rattle.buffers.specs.declared.Entry.{Entry}
 use Rattle.buffers.specs.declared.Buffer.{Buffer}
 use Rattle.buffers.specs.declared.Newest.{Newest}
 use Rattle.buffers.specs.declared.Newest.the-variants.{Nothing, Hit}
-use Rattle.buffers.specs.Stores.{noStore, spotOf, hitsOf}
+use Rattle.buffers.specs.Stores.{spotOf, hitsOf}
 use Rattle.buffers.specs.Buffers.{maxStores, pendingOf, newestOf, storeOrOf}
-use Rattle.buffers.proofs.Fifos.{Sized, pending-length, pending-none}
+use Rattle.buffers.proofs.Fifos.{pending-length, pending-none}
 use Rattle.buffers.proofs.Newests.{newest-none, newest-member, newest-spot}
 use Rattle.memory.specs.declared.Memory.{Memory}
-use Rattle.memory.specs.Memories.{maxCells, maxProcesses, usedOf, noBuffer, bufferOf, withBuffer, pendingLenOf, heldOf}
+use Rattle.memory.specs.Memories.{maxProcesses, noBuffer, bufferOf, withBuffer, pendingLenOf, heldOf}
 use Rattle.memory.specs.Views.{pendingFor, viewOf}
-
-pub record Shaped (m : Memory) : Type 0 where
-  pub marks : length (m .marks) ≡ maxCells
-  pub field0 : length (m .field0) ≡ maxCells
-  pub field1 : length (m .field1) ≡ maxCells
-  pub buffers : length (m .buffers) ≡ maxProcesses
-  pub sized : (p : ℕ) → p < maxProcesses → Sized (bufferOf m p)
-  pub within : (c : ℕ) → usedOf m c ≡ true → c ≤ maxCells
-
-abbrev pub oldestOf : List Entry → Store
-oldestOf [] = noStore
-oldestOf (e ∷ es) = e .store
+pub use Rattle.memory.specs.Shapes.{Shaped, oldestOf}
 
 pub pending-is : (m : Memory) (p : ℕ) → pendingFor m p ≡ pendingOf (bufferOf m p)
 unfolding pendingFor

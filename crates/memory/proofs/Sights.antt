@@ -1,4 +1,4 @@
--- Which number each look gives, exactly when, and what it sees. One and Two read in the order of the tests (Chains). Assumes nothing.
+-- Which number each look gives, exactly when, and what it sees. One and Two read in the order of the tests (specs/Numbers). Assumes nothing.
 --     look-no, look-mark-no, look-field-no, look-sense-no, look-phase-no, look-swept-no           the numbers of a look
 --     look-taken, look-mark-taken, look-field-taken, look-sense-taken, look-phase-taken           a look that is taken sees the view
 --     look-refused                                                                                one that is refused sees the empty store
@@ -18,6 +18,7 @@ use Rattle.memory.specs.declared.Seen.{Seen}
 use Rattle.memory.specs.Memories.{asTaken, byBlocked, byFree, unseen, usedOf, blockedOf, thereOf}
 use Rattle.memory.specs.Looks.{seenOf, lookOf, seenBit, seenValue, seenPhase, lookMarkOf, lookFieldOf, lookSenseOf, lookPhaseOf, sweptOf, lookSweptOf}
 use Rattle.memory.specs.Views.{viewOf}
+use Rattle.memory.specs.Refusals.{LookNumbers}
 use Rattle.memory.proofs.Spots.{there-mark, there-field, there-sense, there-phase}
 use Rattle.memory.proofs.Chains.{itself, One, Two, one, two}
 
@@ -26,7 +27,7 @@ seen-pick true x y e f = e
 seen-pick false x y e f = f
 
 module _ (m : Memory) (p : ℕ) where
-  pub look-no : (at : Spot) → Two (lookOf m p at .no) byBlocked asTaken byFree (blockedOf m p ≡ true) (blockedOf m p ≡ false) (thereOf m at ≡ true) (thereOf m at ≡ false)
+  pub look-no : (at : Spot) → LookNumbers m p at
   unfolding lookOf
   look-no at =
       two byBlocked asTaken byFree (blockedOf m p) (thereOf m at) (λ x. omega arith) (λ x. omega arith) (λ x. omega arith)

@@ -1,10 +1,8 @@
 -- What memory holds, spot by spot: where a spot is there, and what a store, an allocation and a free do to it. Assumes nothing.
---     lastField, Plain                    a spot whose field, if any, is 0 or 1: only those are apart in memory
 --     there-mark, there-field, there-sense, there-alloc-sense, there-phase     a spot of a cell is there while the cell is occupied, any other always
 --     there-used                          so where a spot is there is decided by the occupied cells
 --     held-mark, held-field, held-sense, held-alloc-sense, held-phase          memory's parts as what it holds at a spot
---     Alike, held-same, field-same        marks, fields, senses and phase are the same, so the same is held everywhere
---     Settled                             occupied cells and counts are the same
+--     held-same, field-same               marks, fields, senses and phase are the same, so the same is held everywhere
 --     held-applied                        a store applied is held at its own spot, and every other spot is as before
 --     applied-field                       so each field is as before, or has the value stored
 --     applied-settled, applied-lock, applied-buffers     a store changes neither the occupied cells nor the counts, the lock and the buffers
@@ -29,18 +27,13 @@ use Rattle.buffers.specs.declared.Store.{Store}
 use Rattle.buffers.specs.declared.Store.the-variants as store
 use Rattle.buffers.specs.declared.Spot.{Spot}
 use Rattle.buffers.specs.declared.Spot.the-variants as spot
-use Rattle.buffers.specs.Stores.{spotOf, spotFieldOf, hitsOf, valueOf}
+use Rattle.buffers.specs.Stores.{spotOf, hitsOf, valueOf}
 use Rattle.memory.specs.declared.Memory.{Memory}
 use Rattle.memory.specs.Memories.{maxCells, atCell, putCell, usedOf, markOf, fieldOf, putFieldOf, thereOf, heldOf, appliedOf}
+pub use Rattle.memory.specs.Shapes.{lastField, Plain}
+pub use Rattle.memory.specs.Effects.{Alike, Settled}
 use Rattle.memory.proofs.Shapes.{Shaped}
 use Rattle.memory.proofs.Ends.{put-past}
-
--- "field above 1" is never offered
-abbrev pub lastField : ℕ
-lastField = 1
-
-abbrev pub Plain : Spot → Type 0
-Plain at = spotFieldOf at ≤ lastField
 
 -- ---- one cell of an array
 module _ {A : Type 0} (l : List A) (z v : A) where
@@ -126,15 +119,6 @@ module _ (m : Memory) where
   unfolding heldOf
   held-phase = refl
 
--- the parts of memory that a store can change
-pub record Alike (m n : Memory) : Type 0 where
-  pub marks : n .marks ≡ m .marks
-  pub field0 : n .field0 ≡ m .field0
-  pub field1 : n .field1 ≡ m .field1
-  pub fm : n .fm ≡ m .fm
-  pub fa : n .fa ≡ m .fa
-  pub phase : n .phase ≡ m .phase
-
 pub held-same : (m n : Memory) (at : Spot) → Alike m n → heldOf n at ≡ heldOf m at
 unfolding heldOf
 held-same m n (spot.Mark c) k = rw (k .marks)
@@ -145,12 +129,6 @@ held-same m n spot.Phase k = rw (k .phase)
 
 pub field-same : (m n : Memory) (c f : ℕ) → Alike m n → fieldOf n c f ≡ fieldOf m c f
 field-same m n c f k = rw (k .field0, k .field1)
-
--- the parts that no store changes
-pub record Settled (m n : Memory) : Type 0 where
-  pub cells : n .cells ≡ m .cells
-  pub processes : n .processes ≡ m .processes
-  pub used : n .used ≡ m .used
 
 -- ---- a store applied
 pub applied-settled : (m : Memory) (s : Store) → Settled m (appliedOf m s)

@@ -1,4 +1,12 @@
 pub mod Memories
 pub mod Looks
 pub mod Steps
+pub mod Asks
 pub mod Views
+pub mod Shapes
+pub mod Numbers
+pub mod Refusals
+pub mod Effects
+pub mod Sights
+pub mod Laws
+pub mod SetterLaws

@@ -1,4 +1,5 @@
 // The memory of x86-TSO: cells, senses, phase, lock, and a buffer of pending stores for each process.
+pub mod asks;
 mod heap;
 mod looks;
 mod steps;

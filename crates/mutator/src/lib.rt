@@ -1,75 +1,56 @@
-// "Mutator": a mutator's program. One small step for each operation at the top and for each place below it; of a mark only what is the mutator's own.
-// Each step is of the process that the choice c names, which is q now, over memory m and the system's part h; it answers a turn.
+// "Mutator": a mutator's program, but for its marks (crate `marking`). What each place offers, what its step asks of memory, and how it goes on with what was seen.
+// c is the choice, q the process that makes it.
+use buffers::Spot;
 use buffers::Store;
 use buffers::is_cell;
-use memory::Memory;
-use state::Answer;
+use memory::asks::Ask;
+use memory::asks::Change;
 use state::Choice;
 use state::Hands;
 use state::Handshake;
 use state::Kind;
 use state::Part;
 use state::Process;
-use state::turns::Act;
-use state::turns::Deed;
-use state::turns::Turn;
+use state::acts::Act;
+use state::acts::Going;
 ghost use mathlib.Core.Path.{_≡_};
-ghost use Rattle.mutator.specs.Mutators.{isStore, storing, answerPlace, afterMark, pastFence, stepping};
-ghost use Rattle.mutator.specs.Turns.{allocateTurn, dropTurn, readTurn, storeTurn, fenceTurn, answerTurn, topTurn, isMarking, namesRoot, isMark, namedRoot, storeWriteTurn, answerFenceTurn, finishNoopTurn, finishRootsTurn, finishWorkTurn, placeTurn};
+ghost use Rattle.mutator.specs.Mutators.{allocates, drops, readsField, storesField, topOffers, mutatorOffers, flagWaits, topAsk, mutatorAsk, rooting, storing, answerPlace, answering, topGo, written, pastFence, to, stepping, phaseNow, phaseNext, handing, mutatorGo};
 
-// "0 allocate free cell x (mark = memory's fA, null fields, x becomes a root)"
-fn allocate(m: Memory, c: Choice, mut q: Process) -> Turn
-    ensures { λ r. ⌜ r ≡ allocateTurn m c q ⌝ }
+// "0 allocate free cell x": "cell 0 or above N" is not offered.
+fn allocates(n: u8, c: Choice) -> bool
+    ensures { λ r. ⌜ r ≡ allocates n c ⌝ }
 {
-    if !c.of_x() {
-        return Turn::stops(Answer::NOT_OFFERED, q);
+    if c.of_x() {
+        return is_cell(n, c.x);
     }
-    // "cell 0 or above N" is not offered
-    if !is_cell(m.cells, c.x) {
-        return Turn::stops(Answer::NOT_OFFERED, q);
-    }
-    q.roots = cells::add(q.roots, c.x);
-    Turn::does(Act::Does(Deed::Allocates(c.x)), q)
+    false
 }
 
 // "1 drop root x"
-fn drop(c: Choice, mut q: Process) -> Turn
-    ensures { λ r. ⌜ r ≡ dropTurn c q ⌝ }
+fn drops(c: Choice, q: Process) -> bool
+    ensures { λ r. ⌜ r ≡ drops c q ⌝ }
 {
-    if !c.of_x() {
-        return Turn::stops(Answer::NOT_OFFERED, q);
+    if c.of_x() {
+        return cells::member(q.roots, c.x);
     }
-    if !cells::member(q.roots, c.x) {
-        return Turn::stops(Answer::NOT_OFFERED, q);
-    }
-    q.roots = cells::remove(q.roots, c.x);
-    Turn::goes(q)
+    false
 }
 
-// "2 read field f of root x, a non-null value becomes a root"
-fn read(m: Memory, c: Choice, mut q: Process) -> Turn
-    ensures { λ r. ⌜ r ≡ readTurn m c q ⌝ }
+// "2 read field f of root x"
+fn reads_field(c: Choice, q: Process) -> bool
+    ensures { λ r. ⌜ r ≡ readsField c q ⌝ }
 {
-    if 1 < c.f {
-        return Turn::stops(Answer::NOT_OFFERED, q);
+    if c.f <= 1 {
+        if c.y == 0 {
+            return cells::member(q.roots, c.x);
+        }
     }
-    if c.y != 0 {
-        return Turn::stops(Answer::NOT_OFFERED, q);
-    }
-    if !cells::member(q.roots, c.x) {
-        return Turn::stops(Answer::NOT_OFFERED, q);
-    }
-    let l = m.look_field(c.process, c.x, c.f);
-    if l.no == 0 {
-        q.roots = cells::add(q.roots, l.value);
-        return Turn::goes(q);
-    }
-    Turn::stops(l.no, q)
+    false
 }
 
-// What "3 store y (a root or 0) in field f of root x" offers.
-fn is_store(c: Choice, q: Process) -> bool
-    ensures { λ r. ⌜ r ≡ isStore c q ⌝ }
+// "3 store y (a root or 0) in field f of root x"
+fn stores_field(c: Choice, q: Process) -> bool
+    ensures { λ r. ⌜ r ≡ storesField c q ⌝ }
 {
     if c.f <= 1 {
         if cells::member(q.roots, c.x) {
@@ -82,7 +63,93 @@ fn is_store(c: Choice, q: Process) -> bool
     false
 }
 
-// The old value is read: its mark comes first, past it if it is null.
+// "At top the choice names an operation"; "4 fence"; "5 answer a raised handshake"
+fn top_offers(n: u8, c: Choice, q: Process) -> bool
+    ensures { λ r. ⌜ r ≡ topOffers n c q ⌝ }
+{
+    let op = c.op;
+    match op {
+        0 => allocates(n, c),
+        1 => drops(c, q),
+        2 => reads_field(c, q),
+        3 => stores_field(c, q),
+        4 => c.bare(),
+        5 => c.bare(),
+        6..=255 => false,
+    }
+}
+
+// Check 4: the choice is among what the place offers, n being the number of cells. A place that is none of a mutator's offers nothing.
+pub fn offers(n: u8, c: Choice, q: Process) -> bool
+    ensures { λ r. ⌜ r ≡ mutatorOffers n c q ⌝ }
+{
+    let place = q.place;
+    match place {
+        Process::TOP => top_offers(n, c, q),
+        Process::STORE_MARK_OLD..=Process::WORK_FINISH => c.blank(),
+        Process::ROW1_ROUND..=255 => false,
+    }
+}
+
+// Check 6: "operation 5, flag down"
+pub fn waits(c: Choice, q: Process) -> bool
+    ensures { λ r. ⌜ r ≡ flagWaits c q ⌝ }
+{
+    if q.place == Process::TOP {
+        if c.op == 5 {
+            let part = q.part;
+            return !part.raised;
+        }
+    }
+    false
+}
+
+// At top, by the operation: allocate, drop, read, store (which reads the old value), fence, answer.
+fn top_ask(c: Choice) -> Ask
+    ensures { λ r. ⌜ r ≡ topAsk c ⌝ }
+{
+    let op = c.op;
+    match op {
+        0 => Ask::Make(Change::Allocate(c.x)),
+        2 => Ask::Look(Spot::Field {
+            cell: c.x,
+            field: c.f,
+        }),
+        3 => Ask::Look(Spot::Field {
+            cell: c.x,
+            field: c.f,
+        }),
+        4 => Ask::Fence,
+        _ => Ask::Nothing,
+    }
+}
+
+pub fn ask(c: Choice, q: Process) -> Ask
+    ensures { λ r. ⌜ r ≡ mutatorAsk c q ⌝ }
+{
+    let place = q.place;
+    match place {
+        Process::TOP => top_ask(c),
+        Process::STORE_WRITE => Ask::Make(Change::Write(Store::Field {
+            cell: q.x,
+            field: q.f,
+            value: q.y,
+        })),
+        Process::NOOP_FENCE => Ask::Fence,
+        Process::ROOTS_FENCE => Ask::Fence,
+        Process::WORK_FENCE => Ask::Fence,
+        _ => Ask::Nothing,
+    }
+}
+
+fn rooting(roots: u64, mut q: Process) -> Process
+    ensures { λ r. ⌜ r ≡ rooting roots q ⌝ }
+{
+    q.roots = roots;
+    q
+}
+
+// "Store: the first step reads the old value": its mark comes first, past it if it is null.
 fn storing(c: Choice, old: u8, mut q: Process) -> Process
     ensures { λ r. ⌜ r ≡ storing c old q ⌝ }
 {
@@ -92,38 +159,10 @@ fn storing(c: Choice, old: u8, mut q: Process) -> Process
     q.y = c.y;
     q.old = old;
     if old == 0 {
-        return after_mark(q);
+        return marking::past(q);
     }
     q.stage = Process::LOOK;
     q
-}
-
-// "Store: the first step reads the old value"
-fn store(m: Memory, c: Choice, q: Process) -> Turn
-    ensures { λ r. ⌜ r ≡ storeTurn m c q ⌝ }
-{
-    if !is_store(c, q) {
-        return Turn::stops(Answer::NOT_OFFERED, q);
-    }
-    let l = m.look_field(c.process, c.x, c.f);
-    if l.no == 0 {
-        return Turn::goes(storing(c, l.value, q));
-    }
-    Turn::stops(l.no, q)
-}
-
-// "4 fence"
-fn fence(m: Memory, c: Choice, q: Process) -> Turn
-    ensures { λ r. ⌜ r ≡ fenceTurn m c q ⌝ }
-{
-    if !c.bare() {
-        return Turn::stops(Answer::NOT_OFFERED, q);
-    }
-    let k = m.fence(c.process);
-    if k.no == 0 {
-        return Turn::goes(q);
-    }
-    Turn::stops(k.no, q)
 }
 
 // The branch of an answer, by the type read.
@@ -138,170 +177,61 @@ fn answer_place(kind: Kind) -> u8
 }
 
 // "5 answer a raised handshake": "read the type"
-fn answer(h: Hands, c: Choice, mut q: Process) -> Turn
-    ensures { λ r. ⌜ r ≡ answerTurn h c q ⌝ }
+fn answering(h: Hands, mut q: Process) -> Process
+    ensures { λ r. ⌜ r ≡ answering h q ⌝ }
 {
-    if !c.bare() {
-        return Turn::stops(Answer::NOT_OFFERED, q);
-    }
-    let part = q.part;
-    if part.raised {
-        let kind = h.kind;
-        q.place = answer_place(kind);
-        return Turn::goes(q);
-    }
-    Turn::stops(Answer::FLAG_DOWN, q)
-}
-
-// "At top the choice names an operation"
-fn top(m: Memory, h: Hands, c: Choice, q: Process) -> Turn
-    ensures { λ r. ⌜ r ≡ topTurn m h c q ⌝ }
-{
-    let op = c.op;
-    match op {
-        0 => allocate(m, c, q),
-        1 => drop(c, q),
-        2 => read(m, c, q),
-        3 => store(m, c, q),
-        4 => fence(m, c, q),
-        5 => answer(h, c, q),
-        6..=255 => Turn::stops(Answer::NOT_OFFERED, q),
-    }
-}
-
-// Where a mutator goes when a mark is over: "then mark the old; mark y; write the field"; to the next root, or to the end of the answer.
-pub fn after_mark(mut q: Process) -> Process
-    ensures { λ r. ⌜ r ≡ afterMark q ⌝ }
-{
-    let place = q.place;
-    match place {
-        Process::STORE_MARK_OLD => {
-            if q.y == 0 {
-                q.place = Process::STORE_WRITE;
-                return q;
-            }
-            q.place = Process::STORE_MARK_Y;
-            q.stage = Process::LOOK;
-            q
-        }
-        Process::STORE_MARK_Y => {
-            q.place = Process::STORE_WRITE;
-            q
-        }
-        _ => {
-            if q.left == 0 {
-                q.place = Process::ROOTS_FINISH;
-                return q;
-            }
-            q.stage = Process::LOOK;
-            q
-        }
-    }
-}
-
-// The places of a mark: of a store's old value, of y, of a root.
-pub fn is_marking(place: u8) -> bool
-    ensures { λ r. ⌜ r ≡ isMarking place ⌝ }
-{
-    match place {
-        Process::STORE_MARK_OLD => true,
-        Process::STORE_MARK_Y => true,
-        Process::ROOTS_MARK => true,
-        _ => false,
-    }
-}
-
-// "for roots, mark each root, the choice x naming which remaining one at its first look": whether the step is that look.
-fn names_root(q: Process) -> bool
-    ensures { λ r. ⌜ r ≡ namesRoot q ⌝ }
-{
-    if q.place == Process::ROOTS_MARK {
-        return q.stage == Process::LOOK;
-    }
-    false
-}
-
-// What a step of a mark offers: at that look the roots left; else the place uses no argument.
-pub fn is_mark(c: Choice, q: Process) -> bool
-    ensures { λ r. ⌜ r ≡ isMark c q ⌝ }
-{
-    if names_root(q) {
-        return c.names(q.left);
-    }
-    c.blank()
-}
-
-// At that look the root that the choice names leaves those left, and is the cell to mark. Else the cell is known already.
-pub fn named_root(c: Choice, mut q: Process) -> Process
-    ensures { λ r. ⌜ r ≡ namedRoot c q ⌝ }
-{
-    if names_root(q) {
-        q.left = cells::remove(q.left, c.x);
-        q.cell = c.x;
-        return q;
-    }
+    let kind = h.kind;
+    q.place = answer_place(kind);
     q
 }
 
-// "write the field, clearing the honorary root"
-fn write(c: Choice, mut q: Process) -> Turn
-    ensures { λ r. ⌜ r ≡ storeWriteTurn c q ⌝ }
+// "x becomes a root"; "drop root x"; "a non-null value becomes a root"; the old value is read; a fence moves nothing; the type is read.
+fn top_go(c: Choice, seen: Store, h: Hands, q: Process) -> Process
+    ensures { λ r. ⌜ r ≡ topGo c seen h q ⌝ }
 {
-    if !c.blank() {
-        return Turn::stops(Answer::NOT_OFFERED, q);
+    let op = c.op;
+    match op {
+        0 => rooting(cells::add(q.roots, c.x), q),
+        1 => rooting(cells::remove(q.roots, c.x), q),
+        2 => rooting(cells::add(q.roots, seen.value_in()), q),
+        3 => storing(c, seen.value_in(), q),
+        4 => q,
+        5 => answering(h, q),
+        6..=255 => q,
     }
-    let store = Store::Field {
-        cell: q.x,
-        field: q.f,
-        value: q.y,
-    };
+}
+
+// "write the field, clearing the honorary root"
+fn written(mut q: Process) -> Process
+    ensures { λ r. ⌜ r ≡ written q ⌝ }
+{
     q.place = Process::TOP;
     q.x = 0;
     q.f = 0;
     q.y = 0;
     q.old = 0;
-    Turn::does(Act::Does(Deed::Writes(store)), q)
+    q
 }
 
-// Past an answer's fence: for roots to the first root if there is one, else to the last step.
+// Past the fence of an answer: for roots to the first root if there is one, else to the last step.
 fn past_fence(mut q: Process) -> Process
     ensures { λ r. ⌜ r ≡ pastFence q ⌝ }
 {
-    let place = q.place;
-    match place {
-        Process::NOOP_FENCE => {
-            q.place = Process::NOOP_FINISH;
-            q
-        }
-        Process::ROOTS_FENCE => {
-            if q.roots == 0 {
-                q.place = Process::ROOTS_FINISH;
-                return q;
-            }
-            q.place = Process::ROOTS_MARK;
-            q.stage = Process::LOOK;
-            q.left = q.roots;
-            q
-        }
-        _ => {
-            q.place = Process::WORK_FINISH;
-            q
-        }
+    if q.roots == 0 {
+        q.place = Process::ROOTS_FINISH;
+        return q;
     }
+    q.place = Process::ROOTS_MARK;
+    q.stage = Process::LOOK;
+    q.left = q.roots;
+    q
 }
 
-// "Answer: .. fence"
-fn answer_fence(m: Memory, c: Choice, q: Process) -> Turn
-    ensures { λ r. ⌜ r ≡ answerFenceTurn m c q ⌝ }
+fn to(place: u8, mut q: Process) -> Process
+    ensures { λ r. ⌜ r ≡ to place q ⌝ }
 {
-    if !c.blank() {
-        return Turn::stops(Answer::NOT_OFFERED, q);
-    }
-    let k = m.fence(c.process);
-    if k.no == 0 {
-        return Turn::goes(past_fence(q));
-    }
-    Turn::stops(k.no, q)
+    q.place = place;
+    q
 }
 
 // Back at top, the flag lowered and in step, at the given handshake phase.
@@ -318,61 +248,47 @@ fn stepping(phase: Handshake, mut q: Process) -> Process
     q
 }
 
-// "then one step lowers the flag, sets in step": "a no-op answer moves nothing".
-fn finish_noop(c: Choice, q: Process) -> Turn
-    ensures { λ r. ⌜ r ≡ finishNoopTurn c q ⌝ }
+// The handshake phase as it stands, and the next one: "That step advances the mutator's handshake phase for no-op and roots."
+fn phase_now(q: Process) -> Handshake
+    ensures { λ r. ⌜ r ≡ phaseNow q ⌝ }
 {
-    if !c.blank() {
-        return Turn::stops(Answer::NOT_OFFERED, q);
-    }
     let part = q.part;
     let phase = part.phase;
-    Turn::goes(stepping(phase.next(), q))
+    phase
 }
 
-// For roots it "moves its list to the system's (joining what is there ..)", and "advances the mutator's handshake phase".
-fn finish_roots(h: Hands, c: Choice, mut q: Process) -> Turn
-    ensures { λ r. ⌜ r ≡ finishRootsTurn h c q ⌝ }
+fn phase_next(q: Process) -> Handshake
+    ensures { λ r. ⌜ r ≡ phaseNext q ⌝ }
 {
-    if !c.blank() {
-        return Turn::stops(Answer::NOT_OFFERED, q);
-    }
-    let part = q.part;
-    let phase = part.phase;
+    let phase = phase_now(q);
+    phase.next()
+}
+
+// For roots or work the last step also "moves its list to the system's (joining what is there ..)".
+fn handing(phase: Handshake, h: Hands, mut q: Process) -> Going
+    ensures { λ r. ⌜ r ≡ handing phase h q ⌝ }
+{
     let joined = cells::union(h.work, q.work);
     q.work = 0;
-    Turn::does(Act::Lists(joined), stepping(phase.next(), q))
+    Going::with(Act::Lists(joined), stepping(phase, q))
 }
 
-// For work it moves the list too, and the handshake phase stays.
-fn finish_work(h: Hands, c: Choice, mut q: Process) -> Turn
-    ensures { λ r. ⌜ r ≡ finishWorkTurn h c q ⌝ }
-{
-    if !c.blank() {
-        return Turn::stops(Answer::NOT_OFFERED, q);
-    }
-    let part = q.part;
-    let phase = part.phase;
-    let joined = cells::union(h.work, q.work);
-    q.work = 0;
-    Turn::does(Act::Lists(joined), stepping(phase, q))
-}
-
-// The step at a mutator's place of no mark. Any other place is malformed, those of a mark too: the engine makes the steps of a mark, for every process.
-// Places with the same step share an arm: a function that is called once is inlined, and its arguments are not copied.
-pub fn step(m: Memory, h: Hands, c: Choice, q: Process) -> Turn
-    ensures { λ r. ⌜ r ≡ placeTurn m h c q ⌝ }
+// At a mark's places the crate `marking` tells how it goes on; past the last nothing is offered.
+pub fn go(c: Choice, seen: Store, h: Hands, q: Process) -> Going
+    ensures { λ r. ⌜ r ≡ mutatorGo c seen h q ⌝ }
 {
     let place = q.place;
     match place {
-        Process::TOP => top(m, h, c, q),
-        Process::STORE_MARK_OLD..=Process::STORE_MARK_Y => Turn::stops(Answer::MALFORMED, q),
-        Process::STORE_WRITE => write(c, q),
-        Process::NOOP_FENCE | Process::ROOTS_FENCE | Process::WORK_FENCE => answer_fence(m, c, q),
-        Process::NOOP_FINISH => finish_noop(c, q),
-        Process::ROOTS_MARK => Turn::stops(Answer::MALFORMED, q),
-        Process::ROOTS_FINISH => finish_roots(h, c, q),
-        Process::WORK_FINISH => finish_work(h, c, q),
-        11..=255 => Turn::stops(Answer::MALFORMED, q),
+        Process::TOP => Going::on(top_go(c, seen, h, q)),
+        Process::STORE_MARK_OLD..=Process::STORE_MARK_Y => Going::on(q),
+        Process::STORE_WRITE => Going::on(written(q)),
+        Process::NOOP_FENCE => Going::on(to(Process::NOOP_FINISH, q)),
+        Process::NOOP_FINISH => Going::on(stepping(phase_next(q), q)),
+        Process::ROOTS_FENCE => Going::on(past_fence(q)),
+        Process::ROOTS_MARK => Going::on(q),
+        Process::ROOTS_FINISH => handing(phase_next(q), h, q),
+        Process::WORK_FENCE => Going::on(to(Process::WORK_FINISH, q)),
+        Process::WORK_FINISH => handing(phase_now(q), h, q),
+        Process::ROW1_ROUND..=255 => Going::on(q),
     }
 }

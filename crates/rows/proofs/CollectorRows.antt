@@ -1,152 +1,117 @@
--- The collector: each row is an answer of `collectorOf`. Assumes nothing.
+-- The collector: each row is an answer. Assumes nothing.
 --     collector-complete      a row's state is what the code answers
-use mathlib.Core.Path.{_≡_, sym, ap, _∙_, subst}
-use mathlib.Core.Bool.{Bool, not}
+use mathlib.Core.Path.{_≡_, refl, sym, ap, subst}
+use mathlib.Core.Bool.{true}
 use mathlib.Core.Logic.{_⊎_, inl, inr}
 use Prim.Native.Nat.{ℕ}
 use native.Mathlib.Omega.{arith}
-use lib.Dec.{eqb}
-use borrow.Author.Tests.{ne-eqb, eq-eqb}
-use Rattle.base.specs.Pick.{pick}
+use borrow.Author.Tests.{ne-eqb}
 use Rattle.base.proofs.Bits.{bit-same, bit-other}
-use Rattle.cells.specs.Sets.{removeOf, fullOf, Member}
-use Rattle.buffers.specs.declared.Store.{Store}
+use Rattle.cells.specs.Sets.{noCells, Member, removeOf}
 use Rattle.memory.specs.declared.Memory.{Memory}
-use Rattle.memory.specs.Memories.{taken}
 use Rattle.memory.specs.declared.Done.{Done}
-use Rattle.memory.specs.Looks.{lookSweptOf, lookSenseOf, lookFieldOf}
-use Rattle.memory.specs.Steps.{writeOf, freeOf}
+use Rattle.memory.specs.declared.asks.Ask.the-variants as ask
+use Rattle.memory.specs.declared.asks.Change.{Change}
+use Rattle.memory.specs.Memories.{asTaken, taken}
+use Rattle.memory.specs.Looks.{lookSweptOf}
+use Rattle.memory.specs.Asks.{blind, doneOf, sweptSight}
+use Rattle.memory.proofs.Tellings.{sense-told, field-told}
+use Rattle.state.specs.declared.Handshake.{Handshake}
+use Rattle.state.specs.declared.Kind.{Kind}
 use Rattle.state.specs.declared.Process.{Process}
 use Rattle.state.specs.declared.State.{State}
 use Rattle.state.specs.declared.Choice.{Choice}
-use Rattle.state.specs.declared.Answer.{Answer}
-use Rattle.state.specs.Codes.{row2Write, row5Alloc, row7Mark0, row7Read1, row7Mark1, row7Drop, row10Look, row10Free, noStage}
-use Rattle.state.specs.States.{at, leaving, noting, marking, processOf, withProcess, withMemory, takenOf, refusedOf, goesOf, actsOf}
-use Rattle.collector.specs.Collectors.{collectorOf, writeStep, senseReadStep, senseWriteStep, initWriteStep, markWriteStep, allocWriteStep, emptied, taking, takeStep, scanning, readFirst, readSecond, afterMark, markStep, dropping, dropStep, sweepWriteStep, sweeping, sweepLookStep, freeStep, idleWriteStep}
-use Rattle.marking.specs.Marks.{markedCell}
-use Rattle.rows.specs.Offers.{Bare, OnlyX}
+use Rattle.state.specs.Codes.{row10Look, row11Write, noStage}
+use Rattle.state.specs.States.{at, noting, leaving, processOf, withProcess, withMemory, takenOf}
+use Rattle.state.specs.Acts.{advanceOf, typed, raisedOf, settingOf, goingOn}
+use Rattle.marking.specs.Marks.{isSite, markedCell}
+use Rattle.rounds.specs.Rounds.{roundOffers, roundAsk, raising, polling, pollGo, roundGo}
+use Rattle.collector.specs.Collectors.{isRound, rowOffers, collectorOffers, rowAsk, collectorAsk, sensed, flipped, taking, scanning, dropping, sweepFrom, sweeping, swept, rowGo, listGo, collectorGo}
+use Rattle.rows.specs.Offers.{OnlyX}
 use Rattle.rows.specs.Reasons.{mover}
-use Rattle.rows.specs.Rows.{seesBit, seesValue, findsFree, findsMark, Marks, old, new, root, first, second, Next, write, marked, roots, Mark, Collector, fences, types, raises, raises-last, polls-up, polls, polls-last, reads-sense, writes-sense, writes-init, writes-mark, writes-alloc, takes, takes-none, reads-first, reads-first-null, marks, reads-second, reads-second-null, drops, drops-last, writes-sweep, spares, spares-last, condemns, frees, frees-last, writes-idle}
+use Rattle.rows.specs.Rows.{At, findsFree, findsMark, Marks, old, new, root, first, second, Advance, noop, roots, work, flagged, Collector, fences, types, raises, raises-last, polls-up, polls, polls-last, reads-sense, writes-sense, writes-init, writes-mark, writes-alloc, takes, takes-none, reads-first, reads-first-null, marks, reads-second, reads-second-null, drops, drops-last, writes-sweep, spares, spares-last, condemns, frees, frees-last, writes-idle}
 use Rattle.rows.proofs.Offering.{bare-blank, one-naming}
-use Rattle.rows.proofs.RoundRows.{fence-row, type-row, raise-row, raise-last-row, poll-up-row, poll-row, poll-last-row}
-use Rattle.rows.proofs.Marking.{marked-old, marked-y, marked-cell, mark-row}
-use Rattle.rows.proofs.CollectorMoves.{take-some, take-none, scan-mark, scan-past, drop-on, drop-last, sweep-on, sweep-last, spared-on, spared-last}
-use Rattle.rows.proofs.CollectorPlaces.{Collecting, at-row2Read, at-row2Write, at-row4Write, at-row5Phase, at-row5Alloc, at-row6Take, at-row7Read0, at-row7Mark0, at-row7Read1, at-row7Mark1, at-row7Drop, at-row8Take, at-row9Write, at-row10Look, at-row10Free, at-row11Write}
+use Rattle.rows.proofs.Lists.{all-off}
+use Rattle.own.specs.Owns.{ownOffers, ownAsk, ownGo}
+use Rattle.rows.proofs.Road.{ownOf}
+use Rattle.rows.proofs.Marks.{mark-row}
+use Rattle.rows.proofs.Places.{stands, toldAt, goneAt, place-row}
+use Rattle.rows.proofs.Rounds.{Collecting, round-row}
+use Rattle.rows.proofs.Collectors.{spared, Scanning, scan-cell, scan-site}
 
--- ---- the answer, given memory's
-module _ (s : State) (c : Choice) where
-  abbrev afterWrite : Process → Done → Answer
-  afterWrite q k = pick (eqb (k .no) 0) (actsOf s (k .memory) (c .process) q) (refusedOf (k .no) s)
+advances : {t : Kind} {g h : Handshake} → Advance t g h → advanceOf t g ≡ h
+advances noop = refl
+advances roots = refl
+advances work = refl
 
-  write-answer : (v : Store) (q : Process) {m : Memory} → Bare c → writeOf (s .memory) (c .process) (record { store = v }) ≡ taken m → writeStep s c v q ≡ takenOf (withProcess (withMemory s m) (c .process) q)
-  unfolding writeStep
-  write-answer v q b e = rw (bare-blank c b) (ap (afterWrite q) e)
-
-  free-answer : (q : Process) {m : Memory} → Bare c → freeOf (s .memory) (c .process) (q .x) ≡ taken m → freeStep s c q ≡ takenOf (withProcess (withMemory s m) (c .process) (sweeping q))
-  unfolding freeStep
-  free-answer q b e = rw (bare-blank c b) (ap (afterWrite (sweeping q)) e)
-
-  take-answer : (q : Process) → Bare c → takeStep s c q ≡ goesOf (emptied s) (c .process) (taking (s .hands .work) q)
-  unfolding takeStep
-  take-answer q b = rw (bare-blank c b)
-
-  sense-answer : (q : Process) {b : Bool} → Bare c → lookSenseOf (s .memory) (c .process) ≡ seesBit b → senseReadStep s c q ≡ goesOf s (c .process) (at row2Write (q .stage) (marking (q .cell) (q .look) b (q .grey) q))
-  unfolding senseReadStep
-  sense-answer q b e = simp (bare-blank c b, e)
-
-  first-answer : (q : Process) {v : ℕ} → OnlyX c → Member (q .work) (c .x) → lookFieldOf (s .memory) (c .process) (c .x) 0 ≡ seesValue v
-      → readFirst s c q ≡ goesOf s (c .process) (scanning (c .x) v row7Mark0 row7Read1 q)
-  unfolding readFirst
-  first-answer q o i e = simp (one-naming c (q .work) o i, e)
-
-  second-answer : (q : Process) {v : ℕ} → Bare c → lookFieldOf (s .memory) (c .process) (q .x) 1 ≡ seesValue v → readSecond s c q ≡ goesOf s (c .process) (scanning (q .x) v row7Mark1 row7Drop q)
-  unfolding readSecond
-  second-answer q b e = simp (bare-blank c b, e)
-
-  drop-answer : (q : Process) → Bare c → dropStep s c q ≡ goesOf s (c .process) (dropping (removeOf (q .work) (q .x)) q)
-  unfolding dropStep
-  drop-answer q b = rw (bare-blank c b)
-
-  spare-answer : (q : Process) → OnlyX c → Member (q .left) (c .x) → (lookSweptOf (s .memory) (c .process) (c .x) ≡ findsFree) ⊎ (lookSweptOf (s .memory) (c .process) (c .x) ≡ findsMark (q .sense))
-      → sweepLookStep s c q ≡ goesOf s (c .process) (sweeping (leaving (removeOf (q .left) (c .x)) q))
-  unfolding sweepLookStep
-  spare-answer q o i (inl e) = simp (one-naming c (q .left) o i, e)
-  spare-answer q o i (inr e) = simp (one-naming c (q .left) o i, e, bit-same (q .sense))
-
-  condemn-answer : (q : Process) → OnlyX c → Member (q .left) (c .x) → lookSweptOf (s .memory) (c .process) (c .x) ≡ findsMark (not (q .sense))
-      → sweepLookStep s c q ≡ goesOf s (c .process) (at row10Free (q .stage) (noting (c .x) (q .f) (q .y) (q .old) (leaving (removeOf (q .left) (c .x)) q)))
-  unfolding sweepLookStep
-  condemn-answer q o i e = simp (one-naming c (q .left) o i, e, bit-other (q .sense))
-
--- ---- rows
 module _ (s : State) (c : Choice) (z : Collecting s c) where
   abbrev q : Process
   q = mover s c
 
-  mark-at : {r : ℕ} → Marks q r → collectorOf s c q ≡ markStep s c q
-  mark-at (old e) = absurd (omega (arith, z .first))
-  mark-at (new e) = absurd (omega (arith, z .first))
-  mark-at (root e) = absurd (omega (arith, z .first))
-  mark-at (first e) = at-row7Mark0 s c q e
-  mark-at (second e) = at-row7Mark1 s c q e
+  -- the collector goes on as u
+  abbrev goes : State → Process → State
+  goes x u = withProcess x (c .process) u
 
-  cell-is : {r : ℕ} → Marks q r → markedCell q ≡ r
-  cell-is (old e) = marked-old q e
-  cell-is (new e) = marked-y q e
-  cell-is (root e) = marked-cell q (omega arith)
-  cell-is (first e) = marked-cell q (omega arith)
-  cell-is (second e) = marked-cell q (omega arith)
+  abbrev left : ℕ
+  left = removeOf (q .left) (c .x)
 
-  -- what comes next is the code's
-  next-is : (u t : Process) → u .place ≡ q .place → Next u t → afterMark (at (u .place) noStage u) ≡ t
-  unfolding afterMark
-  next-is u t e (write f n) = absurd (omega (arith, z .first))
-  next-is u t e (new f n) = absurd (omega (arith, z .first))
-  next-is u t e (marked f) = absurd (omega (arith, z .first))
-  next-is u t e (roots f n) = absurd (omega (arith, z .first))
-  next-is u t e (root f n) = absurd (omega (arith, z .first))
-  next-is u t e (first f) = rw (eq-eqb (u .place) row7Mark0 f)
-  next-is u t e (second f) = rw (ne-eqb (u .place) row7Mark0 (λ g. omega arith))
+  -- ---- at a place with no stages
+  plain-row : {k : ℕ} {t : State} → At k noStage q → ownOffers (s .memory .cells) c (at k noStage q) ≡ true → toldAt s c (at k noStage q) .no ≡ 0 → goneAt s c (at k noStage q) (toldAt s c (at k noStage q)) ≡ t → ownOf s c ≡ takenOf t
+  plain-row a o n g = place-row s c a (omega (arith, z .first, a .place)) o refl n g
 
-  mark-answer : {r : ℕ} {m : Memory} {t : Process} → Bare c → Marks q r → Mark (s .memory) (c .process) r q m t → markStep s c q ≡ takenOf (withProcess (withMemory s m) (c .process) t)
-  unfolding markStep
-  mark-answer {r} {m} {t} b k x = rw (bare-blank c b) (mark-row s (c .process) q afterMark next-is (subst (λ (i : ℕ). Mark (s .memory) (c .process) i q m t) (sym (cell-is k)) x))
+  -- memory changes by d
+  make-row : {k : ℕ} {d : Change} {m : Memory} {u : Process} → At k noStage q → ownOffers (s .memory .cells) c (at k noStage q) ≡ true → ownAsk c (at k noStage q) ≡ ask.Make d → doneOf (s .memory) (c .process) d ≡ taken m
+      → ownGo c (settingOf s (c .x)) (blind asTaken) (at k noStage q) ≡ goingOn u → ownOf s c ≡ takenOf (goes (withMemory s m) u)
+  make-row a o h e g = place-row s c a (omega (arith, z .first, a .place)) o h (ap (λ (d : Done). d .no) e) (rw (e, g) refl)
 
-  abbrev goes : Process → Answer
-  goes = goesOf s (c .process)
+  -- row 10: the cell is free, or its mark is the noted fM
+  spare-row : {t : State} → At row10Look noStage q → OnlyX c → Member (q .left) (c .x) → (lookSweptOf (s .memory) (c .process) (c .x) ≡ findsFree) ⊎ (lookSweptOf (s .memory) (c .process) (c .x) ≡ findsMark (q .sense))
+      → goes s (sweeping (leaving left (at row10Look noStage q))) ≡ t → ownOf s c ≡ takenOf t
+  unfolding ownOffers ownAsk ownGo isSite isRound collectorOffers collectorAsk collectorGo rowOffers rowAsk rowGo listGo swept sweptSight
+  spare-row a o i (inl e) g = plain-row a (one-naming c (q .left) o i) (rw e refl) (rw e g)
+  spare-row a o i (inr e) g = plain-row a (one-naming c (q .left) o i) (rw e refl) (rw (e, bit-same (q .sense)) g)
 
-  row-answer : {t : State} → Collector s c (c .process) q t → collectorOf s c q ≡ takenOf t
-  unfolding senseWriteStep initWriteStep markWriteStep allocWriteStep emptied sweepWriteStep idleWriteStep
-  row-answer (fences r a b e) = fence-row s c q r a b e
-  row-answer (types r a b v) = type-row s c q r (z .processes) a b v
-  row-answer (raises r a o i n) = raise-row s c q r a o i n
-  row-answer (raises-last r a o i n) = raise-last-row s c q r a o i n
-  row-answer (polls-up r a o i u) = poll-up-row s c q r a o i u
-  row-answer (polls r a o i u n) = poll-row s c q r a o i u n
-  row-answer (polls-last r a o i u n) = poll-last-row s c q r a o i u n
-  row-answer (reads-sense a b {b = l} e) = at-row2Read s c q (a .place) ∙ sense-answer s c q b e ∙ ap (λ (j : ℕ). goes (at row2Write j (marking (q .cell) (q .look) l (q .grey) q))) (a .stage)
-  row-answer (writes-sense a b e) = at-row2Write s c q (a .place) ∙ write-answer s c _ _ b e
-  row-answer (writes-init a b e) = at-row4Write s c q (a .place) ∙ write-answer s c _ _ b e
-  row-answer (writes-mark a b {m = m} e) = at-row5Phase s c q (a .place) ∙ write-answer s c _ _ b e ∙ ap (λ (j : ℕ). actsOf s m (c .process) (at row5Alloc j q)) (a .stage)
-  row-answer (writes-alloc a b e) = at-row5Alloc s c q (a .place) ∙ write-answer s c _ _ b e
-  row-answer (takes (inl a) b n) = at-row6Take s c q (a .place) ∙ take-answer s c q b ∙ ap (goesOf (emptied s) (c .process)) (take-some (s .hands .work) q (a .stage) n)
-  row-answer (takes (inr a) b n) = at-row8Take s c q (a .place) ∙ take-answer s c q b ∙ ap (goesOf (emptied s) (c .process)) (take-some (s .hands .work) q (a .stage) n)
-  row-answer (takes-none (inl a) b n) = at-row6Take s c q (a .place) ∙ take-answer s c q b ∙ ap (goesOf (emptied s) (c .process)) (take-none (s .hands .work) q (a .stage) n)
-  row-answer (takes-none (inr a) b n) = at-row8Take s c q (a .place) ∙ take-answer s c q b ∙ ap (goesOf (emptied s) (c .process)) (take-none (s .hands .work) q (a .stage) n)
-  row-answer (reads-first a o i {v = v} e n) = at-row7Read0 s c q (a .place) ∙ first-answer s c q o i e ∙ ap goes (scan-mark (c .x) v row7Mark0 row7Read1 q n)
-  row-answer (reads-first-null a o i e) = at-row7Read0 s c q (a .place) ∙ first-answer s c q o i e ∙ ap goes (scan-past (c .x) row7Mark0 row7Read1 q (a .stage))
-  row-answer (marks b k x) = mark-at k ∙ mark-answer b k x
-  row-answer (reads-second a b {v = v} e n) = at-row7Read1 s c q (a .place) ∙ second-answer s c q b e ∙ ap goes (scan-mark (q .x) v row7Mark1 row7Drop q n)
-  row-answer (reads-second-null a b e) = at-row7Read1 s c q (a .place) ∙ second-answer s c q b e ∙ ap goes (scan-past (q .x) row7Mark1 row7Drop q (a .stage))
-  row-answer (drops a b n) = at-row7Drop s c q (a .place) ∙ drop-answer s c q b ∙ ap goes (drop-on (removeOf (q .work) (q .x)) q (a .stage) n)
-  row-answer (drops-last a b n) = at-row7Drop s c q (a .place) ∙ drop-answer s c q b ∙ ap goes (drop-last (removeOf (q .work) (q .x)) q n)
-  row-answer (writes-sweep a b {m = m} e) = at-row9Write s c q (a .place) ∙ write-answer s c _ _ b e ∙ ap (λ (j : ℕ). actsOf s m (c .process) (at row10Look j (leaving (fullOf (s .memory .cells)) q))) (a .stage)
-  row-answer (spares a o i e n) = at-row10Look s c q (a .place) ∙ spare-answer s c q o i e ∙ ap goes (spared-on q a (z .swept (a .place)) (removeOf (q .left) (c .x)) n)
-  row-answer (spares-last a o i e n) = at-row10Look s c q (a .place) ∙ spare-answer s c q o i e ∙ ap goes (spared-last q a (z .swept (a .place)) (removeOf (q .left) (c .x)) n)
-  row-answer (condemns a o i e) = at-row10Look s c q (a .place) ∙ condemn-answer s c q o i e ∙ ap (λ (j : ℕ). goes (at row10Free j (noting (c .x) (q .f) (q .y) (q .old) (leaving (removeOf (q .left) (c .x)) q)))) (a .stage)
-  row-answer (frees a b {m = m} e n) = at-row10Free s c q (a .place) ∙ free-answer s c q b e ∙ ap (actsOf s m (c .process)) (sweep-on q (a .stage) n)
-  row-answer (frees-last a b {m = m} e n) = at-row10Free s c q (a .place) ∙ free-answer s c q b e ∙ ap (actsOf s m (c .process)) (sweep-last q (a .stage) n)
-  row-answer (writes-idle a b e) = at-row11Write s c q (a .place) ∙ write-answer s c _ _ b e
+  -- ---- row 7's marks
+  scans : {r : ℕ} → Marks q r → Scanning s c z × (markedCell c q ≡ r)
+  scans (old e) = absurd (omega (arith, z .first))
+  scans (new e) = absurd (omega (arith, z .first))
+  scans (root e) = absurd (omega (arith, z .first))
+  scans (first e) = (inl e, scan-cell s c z (inl e))
+  scans (second e) = (inr e, scan-cell s c z (inr e))
 
-pub collector-complete : (s : State) (c : Choice) → c .process ≡ 0 → Collecting s c → {t : State} → Collector s c 0 (processOf s 0) t → collectorOf s c (processOf s 0) ≡ takenOf t
-collector-complete s c own z {t} = subst (λ (p : ℕ). Collector s c p (processOf s p) t → collectorOf s c (processOf s p) ≡ takenOf t) own (row-answer s c z)
+  -- ---- each row
+  row-answer : {t : State} → Collector s c (c .process) q t → ownOf s c ≡ takenOf t
+  unfolding ownOffers ownAsk ownGo isSite isRound collectorOffers collectorAsk collectorGo rowOffers rowAsk rowGo listGo sensed flipped taking scanning dropping sweepFrom sweeping swept sweptSight roundOffers roundAsk roundGo typed raising raisedOf polling pollGo
+  row-answer (fences r a b e) = round-row s c r a (bare-blank c b) (ap (λ (d : Done). d .no) e) refl
+  row-answer (types r a b v) = round-row s c r a (bare-blank c b) refl (rw (all-off (s .procs) (z .processes), advances v) refl)
+  row-answer (raises r a o i n) = round-row s c r a (one-naming c (q .left) o i) refl (rw (ne-eqb left noCells n) (ap (λ (u : Process). goes (withProcess s (c .x) (flagged (processOf s (c .x)))) (leaving left u)) (sym (stands q a))))
+  row-answer (raises-last r a o i n) = round-row s c r a (one-naming c (q .left) o i) refl (rw n refl)
+  row-answer (polls-up r a o i u) = round-row s c r a (one-naming c (q .left) o i) refl (rw u (ap (goes s) (sym (stands q a))))
+  row-answer (polls r a o i u n) = round-row s c r a (one-naming c (q .left) o i) refl (rw (u, ne-eqb left noCells n) (ap (λ (u : Process). goes s (leaving left u)) (sym (stands q a))))
+  row-answer (polls-last r a o i u n) = round-row s c r a (one-naming c (q .left) o i) refl (rw (u, n) refl)
+  row-answer (reads-sense a b e) = let k = sense-told (s .memory) (c .process) e in plain-row a (bare-blank c b) (k .no) (rw (k .bit) refl)
+  row-answer (writes-sense a b e) = make-row a (bare-blank c b) refl e refl
+  row-answer (writes-init a b e) = make-row a (bare-blank c b) refl e refl
+  row-answer (writes-mark a b e) = make-row a (bare-blank c b) refl e refl
+  row-answer (writes-alloc a b e) = make-row a (bare-blank c b) refl e refl
+  row-answer (takes (inl a) b n) = plain-row a (bare-blank c b) refl (rw (ne-eqb (s .hands .work) 0 n) refl)
+  row-answer (takes (inr a) b n) = plain-row a (bare-blank c b) refl (rw (ne-eqb (s .hands .work) 0 n) refl)
+  row-answer (takes-none (inl a) b n) = plain-row a (bare-blank c b) refl (rw n refl)
+  row-answer (takes-none (inr a) b n) = plain-row a (bare-blank c b) refl (rw n refl)
+  row-answer (reads-first a o i {v = v} e n) = let k = field-told (s .memory) (c .process) (c .x) 0 e in plain-row a (one-naming c (q .work) o i) (k .no) (rw (k .value, ne-eqb v 0 n) refl)
+  row-answer (reads-first-null a o i e) = let k = field-told (s .memory) (c .process) (c .x) 0 e in plain-row a (one-naming c (q .work) o i) (k .no) (rw (k .value) refl)
+  row-answer (marks b k x) = let w = scans k in mark-row s c (scan-site s c z (w .0)) b (rw (w .1) x)
+  row-answer (reads-second a b {v = v} e n) = let k = field-told (s .memory) (c .process) (q .x) 1 e in plain-row a (bare-blank c b) (k .no) (rw (k .value, ne-eqb v 0 n) refl)
+  row-answer (reads-second-null a b e) = let k = field-told (s .memory) (c .process) (q .x) 1 e in plain-row a (bare-blank c b) (k .no) (rw (k .value) refl)
+  row-answer (drops a b n) = plain-row a (bare-blank c b) refl (rw (ne-eqb (removeOf (q .work) (q .x)) 0 n) refl)
+  row-answer (drops-last a b n) = plain-row a (bare-blank c b) refl (rw n refl)
+  row-answer (writes-sweep a b e) = make-row a (bare-blank c b) refl e refl
+  row-answer (spares a o i f n) = spare-row a o i f (rw (ne-eqb left 0 n) (ap (goes s) (sym (spared q a (z .swept (a .place)) left))))
+  row-answer (spares-last a o i f n) = spare-row a o i f (rw n (ap (λ (x : ℕ). goes s (at row11Write noStage (noting x (q .f) (q .y) (q .old) (leaving noCells q)))) (sym (z .swept (a .place)))))
+  row-answer (condemns a o i e) = plain-row a (one-naming c (q .left) o i) (rw e refl) (rw (e, bit-other (q .sense)) refl)
+  row-answer (frees a b e n) = make-row a (bare-blank c b) refl e (rw (ne-eqb (q .left) 0 n) refl)
+  row-answer (frees-last a b e n) = make-row a (bare-blank c b) refl e (rw n refl)
+  row-answer (writes-idle a b e) = make-row a (bare-blank c b) refl e refl
+
+pub collector-complete : (s : State) (c : Choice) → c .process ≡ 0 → Collecting s c → {t : State} → Collector s c 0 (processOf s 0) t → ownOf s c ≡ takenOf t
+collector-complete s c own z {t} = subst (λ (p : ℕ). Collector s c p (processOf s p) t → ownOf s c ≡ takenOf t) own (row-answer s c z)

@@ -7,28 +7,22 @@ use Prim.Native.Nat.{ℕ}
 use native.Mathlib.Omega.{arith}
 use lib.ListN.{length}
 use lib.Seq.{set-getD}
-use Rattle.memory.specs.declared.Memory.{Memory}
 use Rattle.memory.specs.Memories.{maxProcesses}
 use Rattle.state.specs.declared.Process.{Process}
-use Rattle.state.specs.declared.Hands.{Hands}
 use Rattle.state.specs.declared.State.{State}
 use Rattle.state.specs.States.{noProcess, processOf, withProcess}
-use Rattle.rounds.specs.Rounds.{outOfStep, allOut}
+use Rattle.state.specs.Acts.{allOut}
 use Rattle.rows.specs.Rows.{allOff, withProcesses}
 
-listed-off : (m : Memory) (h : Hands) (l : List Process) → length l ≡ maxProcesses
-    → allOut (record { memory = m; procs = l; hands = h }) ≡ record { memory = m; procs = allOff l; hands = h }
-unfolding allOut outOfStep
-listed-off m h [] e = absurd (omega arith)
-listed-off m h (a ∷ []) e = absurd (omega arith)
-listed-off m h (a ∷ b ∷ []) e = absurd (omega arith)
-listed-off m h (a ∷ b ∷ c ∷ []) e = absurd (omega arith)
-listed-off m h (a ∷ b ∷ c ∷ d ∷ []) e = absurd (omega arith)
-listed-off m h (a ∷ b ∷ c ∷ d ∷ f ∷ []) e = refl
-listed-off m h (a ∷ b ∷ c ∷ d ∷ f ∷ g ∷ l) e = absurd (omega arith)
-
-pub all-off : (s : State) → length (s .procs) ≡ maxProcesses → allOut s ≡ withProcesses s (allOff (s .procs))
-all-off s e = listed-off (s .memory) (s .hands) (s .procs) e
+pub all-off : (l : List Process) → length l ≡ maxProcesses → allOut l ≡ allOff l
+unfolding allOut
+all-off [] e = absurd (omega arith)
+all-off (a ∷ []) e = absurd (omega arith)
+all-off (a ∷ b ∷ []) e = absurd (omega arith)
+all-off (a ∷ b ∷ c ∷ []) e = absurd (omega arith)
+all-off (a ∷ b ∷ c ∷ d ∷ []) e = absurd (omega arith)
+all-off (a ∷ b ∷ c ∷ d ∷ f ∷ []) e = refl
+all-off (a ∷ b ∷ c ∷ d ∷ f ∷ g ∷ l) e = absurd (omega arith)
 
 pub put-back : (s : State) (p : ℕ) → withProcess s p (processOf s p) ≡ s
 put-back s p = ap (withProcesses s) (set-getD (s .procs) p noProcess)

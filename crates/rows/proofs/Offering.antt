@@ -2,30 +2,23 @@
 --     blank-bare, bare-blank           the code's test is that every argument is zero
 --     naming-one, one-naming           the code's test is that x is of the set, and the rest zero
 --     among, amid                      the offer rewritten
---     offers-none, offers-one          the view of a step that tests it: the choice is offered, or 4 is given
 --     no-flag                          check 6 is for top alone
-use mathlib.Core.Path.{_≡_, sym, _∙_, subst}
-use mathlib.Core.Bool.{Bool, true, false≢true}
+use mathlib.Core.Path.{_≡_, sym, subst}
+use mathlib.Core.Bool.{Bool, true}
 use Prim.Native.Nat.{ℕ, _<_}
 use native.Mathlib.Omega.{arith}
 use lib.Dec.{eqb}
 use borrow.Author.Tests.{eqb-true, eq-eqb}
-use Rattle.base.specs.Pick.{pick}
 use Rattle.base.specs.Every.{_and_}
 use Rattle.base.proofs.Everies.{and-both}
-use Rattle.base.proofs.Picking.{pick-ind}
 use Rattle.cells.specs.Sets.{memberOf, Member}
 use Rattle.state.specs.declared.State.{State}
 use Rattle.state.specs.declared.Choice.{Choice}
-use Rattle.state.specs.declared.Answer.{Answer}
-use Rattle.state.specs.Codes.{notOffered}
-use Rattle.state.specs.States.{refusedOf}
 use Rattle.state.specs.Choices.{isBlank, isBare, isOfX, isNaming}
 use Rattle.rows.specs.Offers as offer
 use Rattle.rows.specs.Offers.{Bare, OnlyX, Among, offerOf}
 use Rattle.rows.specs.Reasons.{mover, FlagDown}
-use Rattle.rows.specs.Views.{View}
-use Rattle.rows.proofs.Deeds.{Offered, declines}
+use Rattle.rows.proofs.Deeds.{Offered}
 
 pub and-true : {a b : Bool} → a ≡ true → b ≡ true → a and b ≡ true
 and-true e f = rw e f
@@ -74,19 +67,6 @@ module _ (s : State) (c : Choice) where
 
   pub amid : {o : offer.Offer} → offerOf (mover s c) ≡ o → Offered s c → Among (s .memory .cells) c (mover s c) o
   amid e h = subst (Among (s .memory .cells) c (mover s c)) e h
-
-module _ (R : State → Type 0) (s : State) (c : Choice) (k : c .kind ≡ 0) {a : Answer} where
-  pub offers-none : offerOf (mover s c) ≡ offer.nothing → (Offered s c → Bare c → View R s c a) → View R s c (pick (isBlank c) a (refusedOf notOffered s))
-  offers-none e f =
-      pick-ind (View R s c) (isBlank c)
-      (λ t. f (among s c e (blank-bare c t)) (blank-bare c t))
-      (λ t. declines s c R k (λ o. false≢true (sym t ∙ bare-blank c (amid s c e o))))
-
-  pub offers-one : {l : ℕ} → offerOf (mover s c) ≡ offer.oneOf l → (Offered s c → OnlyX c → Member l (c .x) → View R s c a) → View R s c (pick (isNaming c l) a (refusedOf notOffered s))
-  offers-one {l} e f =
-      pick-ind (View R s c) (isNaming c l)
-      (λ t. let h = naming-one c l t in f (among s c e h) (h .0) (h .1))
-      (λ t. declines s c R k (λ o. let h = amid s c e o in false≢true (sym t ∙ one-naming c l (h .0) (h .1))))
 
 pub no-flag : (s : State) (c : Choice) {k : ℕ} → mover s c .place ≡ k → 0 < k → FlagDown s c → ⊥
 no-flag s c e l f = omega (arith, f .place)

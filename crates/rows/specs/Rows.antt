@@ -100,7 +100,7 @@ pub data Mark (m : Memory) (p r : ℕ) (q : Process) : Memory → Process → Ty
       → Mark m p r q n (at (q .place) unlockStage (marking (q .cell) (q .look) (q .sense) r q))
   -- "unlock. The unlock also puts a winner's r on its list and ends its greying."
   wins : q .stage ≡ unlockStage → {n : Memory} {t : Process} → unlockOf m p ≡ taken n → (q .grey ≡ 0 → ⊥)
-      → Next (unnoted p (listing (addOf (q .work) (q .grey)) (q .roots) q)) t → Mark m p r q n t
+      → Next (unnoted p (listing (addOf (q .work) r) (q .roots) q)) t → Mark m p r q n t
   loses : q .stage ≡ unlockStage → {n : Memory} {t : Process} → unlockOf m p ≡ taken n → q .grey ≡ 0 → Next (unnoted p q) t → Mark m p r q n t
 
 -- ---- a mutator's steps: process p of the state s, which is q

@@ -4,3 +4,4 @@ pub mod Judges
 pub mod Exacts
 pub mod Cuts
 pub mod Ends
+pub mod Written

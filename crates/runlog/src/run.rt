@@ -1,8 +1,9 @@
 // The run over the records: each by the step of the state before it, until one stops it.
 use super::record;
 use super::record::Record;
-use engine::settles;
 use state::State;
+use state::acts;
+use state::acts::Setting;
 ghost use mathlib.Core.Path.{_≡_};
 ghost use Prim.Native.Nat.{_+_, _*_, _≤_};
 ghost use lib.ListN.{length};
@@ -52,7 +53,7 @@ impl Run {
 }
 
 // The run of so many records, from a place on. A wrong check comes before any refusal of that record.
-// The state is this function's own and changes in place, as far as a turn reaches: a step that took and returned it would copy it whole at each record, which costs more than the step.
+// The state is this function's own and changes in place, as far as the step reaches: a step that took and returned it would copy it whole at each record, which costs more than the step.
 fn records(log: &[u8], at: u32, start: State, whole: u32) -> Run
     requires { ⌜ (at + recordSize * whole ≤ length (now log)) × (length (now log) ≤ maxLog) ⌝ }
     ensures { λ r. ⌜ r ≡ runOf (now (log .entry)) at start whole ⌝ }
@@ -65,51 +66,49 @@ fn records(log: &[u8], at: u32, start: State, whole: u32) -> Run
         if r.check != record::check_of(c) {
             return Run::ended(state, steps, Run::WRONG_CHECK);
         }
-        let i = settles::seat(c.process);
-        let j = settles::seat(c.x);
+        let p = c.process;
+        let i = acts::seat(p);
         let q = state.procs[i];
-        let other = state.procs[j];
-        let m = state.memory;
-        let h = state.hands;
-        let t = settles::turned(m, h, c, q, other);
-        let act = t.act;
-        let next = t.process;
-        let way = settles::way(c.process, t);
-        if way == settles::LIST {
-            let hands = settles::handed(h, act);
-            state.hands = hands;
-            state.procs[i] = next;
-            steps += 1;
-            continue;
+        let no = engine::refuses(state.memory.processes, state.memory.cells, c, q);
+        if no != 0 {
+            return Run::ended(state, steps, no);
         }
-        if way == settles::MEMORY {
-            // read again: a copy kept since before the turn would be made for every record
+        let ask = engine::ask(c, q);
+        let m = state.memory;
+        let seen = m.sight(p, ask);
+        if seen.no != 0 {
+            return Run::ended(state, steps, seen.no);
+        }
+        let j = acts::seat(c.x);
+        let other = state.procs[j];
+        let h = state.hands;
+        let set = Setting {
+            cells: state.memory.cells,
+            mutators: state::mutators(state.memory.processes),
+            hands: h,
+            up: acts::up(c.x, other),
+        };
+        if ask.changes() {
+            // read again: a copy kept over a branch would be made for every record
             let held = state.memory;
-            let d = settles::acted(held, c.process, act);
+            let d = held.made(p, ask);
             if d.no != 0 {
                 return Run::ended(state, steps, d.no);
             }
             let memory = d.memory;
             state.memory = memory;
-            state.procs[i] = next;
-            steps += 1;
-            continue;
         }
-        if way == settles::FLAG {
-            let k = settles::seat(settles::raises(act));
-            let lowered = state.procs[k];
-            let flagged = rounds::flagged(lowered);
-            state.procs[k] = flagged;
-            state.procs[i] = next;
-            steps += 1;
-            continue;
+        let g = engine::go(c, set, seen, q);
+        let act = g.act;
+        let next = g.process;
+        let hands = acts::handed(h, act);
+        state.hands = hands;
+        if acts::shakes(act) {
+            let procs = state.procs;
+            let shaken = acts::shaken(procs, act);
+            state.procs = shaken;
         }
-        let a = settles::settled(state, c.process, t);
-        if a.no != 0 {
-            return Run::ended(state, steps, a.no);
-        }
-        let after = a.state;
-        state = after;
+        state.procs[i] = next;
         steps += 1;
     }
     Run::ended(state, steps, 0)

@@ -1,1 +1,3 @@
-pub mod Settles
+pub mod OpeningLaws
+pub mod SetterLaws
+pub mod Lists

@@ -2,6 +2,6 @@ pub mod Codes
 pub mod States
 pub mod Choices
 pub mod Openings
-pub mod Turns
-pub mod Handshakes
-pub mod Settles
+pub mod Acts
+pub mod OpeningLaws
+pub mod SetterLaws

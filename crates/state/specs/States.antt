@@ -65,13 +65,13 @@ listing w r q = record { place = q .place; stage = q .stage; x = q .x; f = q .f;
 abbrev pub shaking : Bool → Bool → Handshake → Process → Process
 shaking r i h q = record { place = q .place; stage = q .stage; x = q .x; f = q .f; y = q .y; old = q .old; left = q .left; cell = q .cell; look = q .look; sense = q .sense; grey = q .grey; work = q .work; roots = q .roots; part = record { raised = r; in_step = i; phase = h } }
 
--- ---- M: memory's processes without the collector
-abbrev pub mutatorsIn : Memory → ℕ
-mutatorsIn m = m .processes - 1
+-- ---- M: the processes without the collector
+abbrev pub mutatorsAmong : ℕ → ℕ
+mutatorsAmong n = n - 1
 
 -- ---- the state: M; the p-th process, and nobody past the last
 abbrev pub mutatorsOf : State → ℕ
-mutatorsOf s = mutatorsIn (s .memory)
+mutatorsOf s = mutatorsAmong (s .memory .processes)
 
 abbrev pub processOf : State → ℕ → Process
 processOf s p = getD (s .procs) p noProcess
@@ -92,11 +92,3 @@ refusedOf n s = record { no = n; state = s }
 -- taken: t is the state after the step
 abbrev pub takenOf : State → Answer
 takenOf t = record { no = 0; state = t }
-
--- taken: process p becomes q
-abbrev pub goesOf : State → ℕ → Process → Answer
-goesOf s p q = takenOf (withProcess s p q)
-
--- taken: memory becomes m, and process p becomes q
-abbrev pub actsOf : State → Memory → ℕ → Process → Answer
-actsOf s m p q = goesOf (withMemory s m) p q

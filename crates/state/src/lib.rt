@@ -1,11 +1,11 @@
 // The whole state: memory, processes and handshakes, by value; what a step reads of it and how it changes it.
 use memory::Memory;
 
+pub mod acts;
 pub mod opening;
-pub mod turns;
 
 ghost use mathlib.Core.Path.{_≡_};
-ghost use Rattle.state.specs.States.{nextOf, typeNumber, phaseNumber, noProcess, processOf, withProcess, refusedOf, takenOf, goesOf, mutatorsIn, mutatorsOf};
+ghost use Rattle.state.specs.States.{nextOf, typeNumber, phaseNumber, noProcess, processOf, withProcess, refusedOf, takenOf, mutatorsAmong, mutatorsOf};
 ghost use Rattle.state.specs.Choices.{isBlank, isNaming, isBare, isOfX};
 
 // A handshake phase: "Idle, IdleInit, InitMark, Mark, IdleMarkSweep, Idle".
@@ -327,15 +327,14 @@ impl Choice {
     }
 }
 
-// M: memory's processes without the collector.
-pub fn mutators(m: Memory) -> u8
-    ensures { λ r. ⌜ r ≡ mutatorsIn m ⌝ }
+// M: the processes without the collector.
+pub fn mutators(processes: u8) -> u8
+    ensures { λ r. ⌜ r ≡ mutatorsAmong processes ⌝ }
 {
-    let n = m.processes;
-    if n == 0 {
+    if processes == 0 {
         return 0;
     }
-    n - 1
+    processes - 1
 }
 
 impl State {
@@ -343,7 +342,7 @@ impl State {
         ensures { λ r. ⌜ r ≡ mutatorsOf self ⌝ }
     {
         let m = self.memory;
-        mutators(m)
+        mutators(m.processes)
     }
 
     // The p-th process; a number past the last is nobody.
@@ -384,12 +383,5 @@ impl State {
             no: Answer::TAKEN,
             state: self,
         }
-    }
-
-    // Taken: process p becomes q.
-    pub fn goes(self, p: u8, q: Process) -> Answer
-        ensures { λ r. ⌜ r ≡ goesOf self p q ⌝ }
-    {
-        self.with_process(p, q).taken()
     }
 }

@@ -1,30 +1,16 @@
 use borrow.Author.Needs.{needs}
 use Rattle.base.proofs.Picks.{picks}
-use Rattle.marking.specs.Turns.{senseTurn}
+use Rattle.marking.specs.Marks.{senseGo}
 use Rattle.marking.proofs.sense.Statement.{statement}
 use Rattle.marking.proofs.sense.Tie as tie
 
 returns : tie.Need-returns
-unfolding senseTurn
-returns c = rw (← c .before .before .before .before .before .look-sense .ensures, ← c .end .ensures) (search (needs, picks, c .before .if2 .taken, c .before .before .same .ensures, c .before .before .before .if1 .taken) depth 16)
+unfolding senseGo
+returns c = rw (← c .over .ensures) (search (needs, picks, c .before .if1 .taken, c .before .before .same .ensures) depth 16)
 
 returns-2 : tie.Need-returns-2
-unfolding senseTurn
-returns-2 c = rw (← c .before .before .before .before .before .look-sense .ensures, ← c .on .ensures) (search (needs, picks, c .before .if2 .left, c .before .before .same .ensures, c .before .before .before .if1 .taken) depth 16)
-
-returns-3 : tie.Need-returns-3
-unfolding senseTurn
-returns-3 c = rw (← c .before .before .before .look-sense .ensures, ← c .stop .ensures) (search (needs, picks, c .before .if1 .left) depth 16)
+unfolding senseGo
+returns-2 c = rw (← c .on .ensures) (search (needs, picks, c .before .if1 .left, c .before .before .same .ensures) depth 16)
 
 pub sense-spec : {M : Type 1} → statement M
-sense-spec =
-    tie.close
-    (tie.spec
-    (search needs)
-    (search needs)
-    (search needs)
-    returns
-    (search needs)
-    returns-2
-    (search needs)
-    returns-3)
+sense-spec = tie.close (tie.spec (search needs) (search needs) returns (search needs) returns-2)

@@ -6,7 +6,7 @@ use Rattle.mutator.proofs.storing.Tie as tie
 
 returns : tie.Need-returns
 unfolding storing
-returns c = rw (← c .after-mark .ensures) (search (needs, picks, c .before .if1 .taken) depth 16)
+returns c = rw (← c .past .ensures) (search (needs, picks, c .before .if1 .taken) depth 16)
 
 returns-2 : tie.Need-returns-2
 unfolding storing

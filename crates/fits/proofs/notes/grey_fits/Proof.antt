@@ -7,15 +7,11 @@ use Rattle.fits.proofs.notes.grey_fits.Tie as tie
 
 returns : tie.Need-returns
 unfolding greyFitsOf
-returns c = search (needs, picks, c .if1 .taken) depth 16
+returns c = search (needs, picks, c .before .if1 .taken) depth 16
 
 returns-2 : tie.Need-returns-2
 unfolding greyFitsOf
-returns-2 c = search (needs, picks, c .before .if2 .taken, c .before .before .before .if1 .left) depth 16
-
-returns-3 : tie.Need-returns-3
-unfolding greyFitsOf
-returns-3 c = search (needs, picks, c .if2 .left, c .before .before .if1 .left) depth 16
+returns-2 c = search (needs, picks, c .before .if1 .left) depth 16
 
 pub grey-fits-spec : {M : Type 1} → statement M
-grey-fits-spec = tie.close (tie.spec returns returns-2 returns-3)
+grey-fits-spec = tie.close (tie.spec returns returns-2)
