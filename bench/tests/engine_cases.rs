@@ -7,11 +7,14 @@
 //! lock held by nobody, by the collector, by mutator 1 and by mutator 2.
 
 mod acts;
+mod places;
+mod script;
 mod stored;
 
-use acts::places::{collector_code, mutator_code};
-use acts::{ground, Act};
+use acts::ground;
 use claysaucer_bench::{step, Choice, State};
+use places::{collector_code, mutator_code};
+use script::{digits, Act};
 
 /// The programs of cases: the stored output, and the files that have the
 /// tables, in the order in which the program writes them.
@@ -87,17 +90,10 @@ fn holders(choice: &str) -> &'static [Option<u8>] {
 
 fn changed_ground(changes: &str) -> State {
     let mut state = ground();
-    for change in changes.split_terminator('+').skip(1) {
-        read_act(change).apply(&mut state);
+    for act in Act::read_all(changes) {
+        act.apply(&mut state);
     }
     state
-}
-
-fn read_act(text: &str) -> Act {
-    let (letter, rest) = text.split_at(1);
-    let [p, c, f, v] = digits(rest);
-    let letter = letter.chars().next().expect("a change has a letter");
-    Act { letter, p, c, f, v }
 }
 
 /// As a record has them: process, kind, operation, x, f, y.
@@ -110,22 +106,6 @@ fn read_choice(text: &str) -> Choice {
         x,
         f,
         y,
-    }
-}
-
-/// So many digits. A star is 255, and a point stands where none is used.
-fn digits<const COUNT: usize>(text: &str) -> [u8; COUNT] {
-    let read: Vec<u8> = text.bytes().map(digit).collect();
-    read.try_into()
-        .unwrap_or_else(|_| panic!("{text:?} has not {COUNT} digits"))
-}
-
-fn digit(byte: u8) -> u8 {
-    match byte {
-        b'*' => 255,
-        b'.' => 0,
-        b'0'..=b'9' => byte - b'0',
-        _ => panic!("{:?} is no digit", char::from(byte)),
     }
 }
 

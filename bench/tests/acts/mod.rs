@@ -1,28 +1,16 @@
-//! The ground of the tables of cases, and what a case changes of it, each
-//! change by a letter and four digits.
+//! The ground of the tables of choices, and what a case changes of it.
 
-pub mod places;
-
+use crate::places::{collector_place, mutator_place, Code};
+use crate::script::Act;
 use claysaucer_bench::{
     Cell, Collector, HandshakePhase, MarkStage, Mutator, MutatorPlace, Process, RoundStage, State,
     Store, BUFFER_ROOM,
 };
-use places::{collector_place, mutator_place, Code};
 
 /// Three cells: 1, which names 2 in its field 0, and 2 are occupied, 3 is
 /// free. Two mutators: 1 has the roots 1 and 2, 2 has the root 1.
 pub fn ground() -> State {
     State::opening(&[Some([2, 0]), Some([0, 0]), None], &[0b11, 0b01])
-}
-
-/// One change of the ground: its letter, and the digits for a process, a
-/// cell, a field and a value.
-pub struct Act {
-    pub letter: char,
-    pub p: u8,
-    pub c: u8,
-    pub f: u8,
-    pub v: u8,
 }
 
 impl Act {
@@ -78,12 +66,6 @@ impl Act {
             letter => panic!("no change of the collector has the letter {letter}"),
         }
     }
-
-    /// Of a place the cell and the field are its two digits, and the value
-    /// is its stage.
-    fn place(&self) -> Code {
-        (10 * self.c + self.f, self.v)
-    }
 }
 
 fn field(cell: u8, field: u8, value: u8) -> Store {
@@ -121,7 +103,7 @@ fn raise(mutator: &mut Mutator) {
 /// The mutator at that place, with notes that fit it: a store of 2 in field 0
 /// of cell 1, over the old value 2; or an answer with the roots 1 and 2 left.
 fn put_mutator(mutator: &mut Mutator, code: Code) {
-    let place = mutator_place(code);
+    let place = mutator_place(code).expect("a place of a mutator");
     mutator.place = place;
     if place.in_store() {
         mutator.target = 1;
@@ -142,7 +124,7 @@ fn put_mutator(mutator: &mut Mutator, code: Code) {
 /// with cells 1 to 3 left, or 1 to free and the others left.
 fn put_collector(collector: &mut Collector, code: Code) {
     use claysaucer_bench::CollectorPlace::{Row10Free, Row10Look, Row7Read0};
-    let place = collector_place(code);
+    let place = collector_place(code).expect("a place of the collector");
     collector.place = place;
     if place.round_stage() >= Some(RoundStage::Raise) {
         collector.awaited = 0b11;

@@ -6,20 +6,16 @@ use claysaucer_bench::{CollectorPlace, MarkStage, MutatorPlace, RoundStage};
 /// A place and a stage.
 pub type Code = (u8, u8);
 
-/// The mutator's place of that code.
-pub fn mutator_place(code: Code) -> MutatorPlace {
+/// The mutator's place of that code, if it is one.
+pub fn mutator_place(code: Code) -> Option<MutatorPlace> {
     let mut places = MutatorPlace::all().into_iter();
-    places
-        .find(|&place| mutator_code(place) == code)
-        .unwrap_or_else(|| panic!("{code:?} is no place of a mutator"))
+    places.find(|&place| mutator_code(place) == code)
 }
 
-/// The collector's place of that code.
-pub fn collector_place(code: Code) -> CollectorPlace {
+/// The collector's place of that code, if it is one.
+pub fn collector_place(code: Code) -> Option<CollectorPlace> {
     let mut places = CollectorPlace::all().into_iter();
-    places
-        .find(|&place| collector_code(place) == code)
-        .unwrap_or_else(|| panic!("{code:?} is no place of the collector"))
+    places.find(|&place| collector_code(place) == code)
 }
 
 pub fn mutator_code(place: MutatorPlace) -> Code {
@@ -68,11 +64,11 @@ pub fn collector_code(place: CollectorPlace) -> Code {
 }
 
 /// 1 to 7, in the order of the seven steps.
-fn of_mark(stage: MarkStage) -> u8 {
+pub fn of_mark(stage: MarkStage) -> u8 {
     stage as u8 + 1
 }
 
 /// 1 to 4: fence, set type, raise, poll.
-fn of_round(stage: RoundStage) -> u8 {
+pub fn of_round(stage: RoundStage) -> u8 {
     stage as u8 + 1
 }
