@@ -1,4 +1,5 @@
--- Only one answer meets a contract of the form `r ≡ d`, whatever the type of the answer: cited for every public function. Assumes nothing.
+-- Only one answer meets a contract of the form `r ≡ d`, whatever the type of the answer: cited for every public
+-- function. Assumes nothing.
 --     one-answer   two answers that a definition allows are the same
 use mathlib.Core.Path.{_≡_, sym, _∙_}
 

@@ -1,4 +1,5 @@
--- Lists as loops over arrays know them: lengths, elements moved one place down, a fold, a list made element by element, what stands past the end. Assumes nothing.
+-- Lists as loops over arrays know them: lengths, elements moved one place down, a fold, a list made element by
+-- element, what stands past the end. Assumes nothing.
 --     carried                   the length of a field that is an array of structs
 --     moved, moved-again, -end  the loop that moves each element one place down
 --     take-clamped              a count past the end takes the whole

@@ -1,9 +1,11 @@
 -- A buffer as the list of its pending entries, oldest first. Assumes nothing.
 --     pending-length               as many are pending as `len` says
 --     pending-none                 none is pending exactly if `len` is 0
---     push-room, push-full         a push is taken exactly while fewer than `maxStores` are pending, refused exactly if `maxStores` are
+--     push-room, push-full         a push is taken exactly while fewer than `maxStores` are pending, refused exactly
+--                                  if `maxStores` are
 --     push-last, push-same         a push that is taken appends; one that is refused leaves the buffer
---     pop-oldest, pop-none         a pop takes the oldest and leaves the others; of nothing it is refused, and leaves the buffer
+--     pop-oldest, pop-none         a pop takes the oldest and leaves the others; of nothing it is refused, and leaves
+--                                  the buffer
 --     empty-pending                an empty buffer has none pending
 --     empty-sized, push-sized, pop-sized     sizes are kept
 use Prim.Native.Nat.{ℕ, zero, suc, _+_, _-_, _≤_, _<_}

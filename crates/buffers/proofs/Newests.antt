@@ -1,6 +1,7 @@
 -- The newest store to a spot in a list of entries, oldest first. Assumes nothing.
 --     newest-last           of a list with one entry more at the end: that one if it hits, else as before
---     newest-first          of a list with one entry more in front, over what stands below the list: that one stands below the others
+--     newest-first          of a list with one entry more in front, over what stands below the list: that one stands
+--                           below the others
 --     newest-behind         an entry in front of a hit is not seen
 --     newest-miss           nor is one that does not hit
 --     newest-among          of a list with a hit in it and none after: that one

@@ -33,7 +33,8 @@ pushOf b e =
     (record { taken = false; buffer = b })
     (record { taken = true; buffer = record { entries = set (b .entries) (b .len) e; len = b .len + 1 } })
 
--- "A commit applies one's oldest store", which leaves the buffer: the others move down, and "a step zeroes what it stops using". Refused where none is pending.
+-- "A commit applies one's oldest store", which leaves the buffer: the others move down, and "a step zeroes what it
+-- stops using". Refused where none is pending.
 unfoldable pub popOf : Buffer → Popped
 popOf b =
     pick (eqb (b .len) 0)

@@ -1,4 +1,5 @@
--- Refusal 1, as far as a buffer goes: "a .. cell .. or buffer length out of range, or something unused not zero". Assumes nothing.
+-- Refusal 1, as far as a buffer goes: "a .. cell .. or buffer length out of range, or something unused not zero".
+-- Assumes nothing.
 -- `BufferFits` says it as facts, `bufferFitsOf` as the test that the code makes; proofs/Wells has that the two agree.
 -- What a field's value may be is not said here: it is a plain byte.
 use mathlib.Core.Path.{_≡_}

@@ -13,7 +13,8 @@ impl Spot {
 }
 
 impl Store {
-    // The store names a cell of 1 to n, and a field that there is. The value is a plain byte here: which values name a cell is tested above, in crate `fits`.
+    // The store names a cell of 1 to n, and a field that there is. The value is a plain byte here: which values name
+    // a cell is tested above, in crate `formed`.
     pub fn fits(self, n: u8) -> bool
         ensures { λ r. ⌜ r ≡ storeFitsOf n self ⌝ }
     {

@@ -3,10 +3,12 @@
 --     below-member, below-none, below-of         exactly if every member is at most n
 --     below-range                    the members are among 1 to n
 --     below-more, below-sub          kept for a greater n, and for a subset
---     below-empty, below-one, below-add, below-remove, below-union, below-inter, below-inter-right, below-minus, below-full      kept by every operation
+--     below-empty, below-one, below-add, below-remove, below-union, below-inter, below-inter-right, below-minus,
+--     below-full      kept by every operation
 --     same-under                     two sets below n are one where the numbers 1 to n agree
 --     sub-full, full-sub             the sets below n are the subsets of 1 to n
---     union-lt, add-lt, remove-le, inter-le, inter-le-right, minus-le, full-lt        results stay below 2 ^ n, or 2 ^ 64
+--     union-lt, add-lt, remove-le, inter-le, inter-le-right, minus-le, full-lt        results stay below 2 ^ n, or 2
+--     ^ 64
 use mathlib.Core.Path.{_≡_, _∙_}
 use mathlib.Core.Bool.{true, false}
 use mathlib.Core.Logic.{⊎-elim}

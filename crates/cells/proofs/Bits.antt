@@ -1,10 +1,12 @@
--- The binary digits of a number, by place from 0: the ground of the laws by number; the crates above use those. Assumes nothing.
+-- The binary digits of a number, by place from 0: the ground of the laws by number; the crates above use those.
+-- Assumes nothing.
 --     has s i                        the digit i of s is 1
 --     has-empty, has-power, has-union, has-inter, has-minus, has-full       the digits of each operation's result
 --     none-empty, ext                the digits decide the number
 --     has-above, lt-of-places        below 2 ^ k exactly if no digit from place k on is 1
 --     lowest-in, lowest-least        the lowest 1
---     ones-in, none-in, power-in, minus-in, union-in, in-le, in-max, in-zero        how many of the w lowest digits are 1
+--     ones-in, none-in, power-in, minus-in, union-in, in-le, in-max, in-zero        how many of the w lowest digits
+--     are 1
 --     one-shl                        the machine's shift of 1
 use mathlib.Core.Path.{_≡_, refl, sym, ap, ap₂, _∙_}
 use mathlib.Core.Bool.{Bool, true, false, not, _&&_, _||_, false≢true}

@@ -1,13 +1,16 @@
 -- Membership: what every operation holds, number by number, and that this decides the set. Assumes nothing.
 --     member-null, member-digit      null is in no set; a number from 1 is in by its binary digit
---     member-empty, member-one, member-union, member-inter, member-minus, member-add, member-remove, member-full       each operation, as an equation of tests
+--     member-empty, member-one, member-union, member-inter, member-minus, member-add, member-remove, member-full
+--     each operation, as an equation of tests
 --     one-power, add-is              the set of one number is a power of 2; to add is a union
---     add-null, add-above, add-member, remove-null, remove-above, remove-other      where adding and removing change nothing
+--     add-null, add-above, add-member, remove-null, remove-above, remove-other      where adding and removing change
+--     nothing
 --     member-pos, above-none         members are from 1, and of a set below 2 ^ n at most n
 --     same-members, same-below       two sets with the same members are one; below 2 ^ n the numbers 1 to n decide
 --     none-is-empty, not-empty       empty exactly if no member
 --     isNone-empty, isNone-true, isNone-false, isNone-member, isNone-none, isNone-of       the test of it
---     in-union, union-left, union-right, in-inter, inter-both, in-minus, minus-both, in-one, one-same     the operations as facts
+--     in-union, union-left, union-right, in-inter, inter-both, in-minus, minus-both, in-one, one-same     the
+--     operations as facts
 --     in-add, add-same, add-keeps, in-remove, remove-keeps, remove-gone, in-full, full-has
 use mathlib.Core.Path.{_≡_, refl, sym, _∙_}
 use mathlib.Core.Bool.{true, false, not, _&&_, _||_, and-true, and-false}

@@ -2,7 +2,7 @@
 // Every function takes any set and any number.
 ghost use mathlib.Core.Path.{_≡_};
 ghost use Prim.Native.Nat.{_≤_};
-ghost use Rattle.cells.specs.Sets.{maxSet, noCells, isNone, memberOf, oneOf, addOf, removeOf, unionOf, interOf, minusOf, fullOf, belowOf, firstOf, countOf};
+ghost use Rattle.cells.specs.Sets.{maxSet, noCells, isNone, memberOf, oneOf, addOf, removeOf, unionOf, minusOf, fullOf, belowOf, firstOf};
 
 // What a set can hold.
 pub struct Limit;
@@ -39,7 +39,8 @@ pub fn member(s: u64, x: u8) -> bool
     (s >> (x - 1)) % 2 == 1
 }
 
-// The set of x alone, and of null the empty set. Its callers have put a number above 64 aside, for which there is no bit.
+// The set of x alone, and of null the empty set. Its callers have put a number above 64 aside, for which there is no
+// bit.
 fn one(x: u8) -> u64
     requires { ⌜ x ≤ maxSet ⌝ }
     ensures { λ r. ⌜ r ≡ oneOf x ⌝ }
@@ -77,13 +78,6 @@ pub fn union(s: u64, t: u64) -> u64
     s | t
 }
 
-// The numbers that both hold.
-pub fn inter(s: u64, t: u64) -> u64
-    ensures { λ r. ⌜ r ≡ interOf s t ⌝ }
-{
-    s & t
-}
-
 // The numbers of s that t does not hold. What is taken off is part of s, so the difference borrows nothing.
 pub fn minus(s: u64, t: u64) -> u64
     ensures { λ r. ⌜ r ≡ minusOf s t ⌝ }
@@ -119,11 +113,4 @@ pub fn first(s: u64) -> u8
         return 0;
     }
     (u64::trailing_zeros(s) + 1) as u8
-}
-
-// How many numbers s holds, at most 64.
-pub fn count(s: u64) -> u32
-    ensures { λ r. ⌜ r ≡ countOf s ⌝ }
-{
-    u64::count_ones(s)
 }

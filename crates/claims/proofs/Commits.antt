@@ -16,8 +16,8 @@ use Rattle.buffers.proofs.Hits.{hits-own, hits-apart}
 use Rattle.memory.specs.declared.Memory.{Memory}
 use Rattle.memory.proofs.Spots.{Plain, held-sense, held-alloc-sense, held-phase}
 use Rattle.memory.proofs.Effects.{Committed, committed-held}
-use Rattle.sound.specs.WellFormed as sound
-use Rattle.sound.proofs.Shapes.{shaped, pending-plain}
+use Rattle.memory_formed.specs.WellFormed as sound
+use Rattle.memory_formed.proofs.Shapes.{shaped, pending-plain}
 
 abbrev pub senseAfter : Store → Bool → Bool
 senseAfter (store.Mark c b) x = x

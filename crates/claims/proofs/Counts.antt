@@ -1,6 +1,8 @@
 -- A mutator is at most one round behind: the types set, counted against the answers it has finished. Assumes nothing.
---     Turn, turned          a row of the collector's sets the type, and nobody is in step after it, or is at another place
---     Own, owned            a row of a mutator's finishes an answer, and it is in step after it, or leaves its part alone
+--     Turn, turned          a row of the collector's sets the type, and nobody is in step after it, or is at another
+--                           place
+--     Own, owned            a row of a mutator's finishes an answer, and it is in step after it, or leaves its part
+--                           alone
 --     row-behind            one row: the count and how far the mutator is behind
 --     step-behind           one choice
 --     run-behind            a run
@@ -20,21 +22,21 @@ use Rattle.cells.proofs.Bools.{not-both}
 use Rattle.state.specs.declared.Process.{Process}
 use Rattle.state.specs.declared.State.{State}
 use Rattle.state.specs.declared.Choice.{Choice}
-use Rattle.state.specs.declared.Kind.{Kind}
-use Rattle.state.specs.declared.Kind.the-variants as kind
+use Rattle.state.specs.declared.RoundType.{RoundType}
+use Rattle.state.specs.declared.RoundType.the-variants as round
 use Rattle.state.specs.declared.Answer.{Answer}
 use Rattle.state.specs.declared.opening.Heap.{Heap}
 use Rattle.state.specs.Codes.{row6Take, row8Take, noStage, fenceStage, typeStage, raiseStage, pollStage}
 use Rattle.state.specs.States.{noProcess, mutatorsOf, processOf, takenOf, refusedOf}
 use Rattle.state.specs.Openings.{openCollector, openingOf}
-use Rattle.fits.specs.Fits.{amongOf, Among, WellFormed}
-use Rattle.rows.specs.Rows.{At, Marks, Mutator, Round, allOff, Collector, Row}
-use Rattle.kept.specs.Leaves.{Beside}
-use Rattle.kept.proofs.Frames.{off-process}
+use Rattle.formed.specs.Fits.{amongOf, Among, WellFormed}
+use Rattle.model.specs.Rows.{At, Marks, Mutator, Round, allOff, Collector, Row}
+use Rattle.stays_formed.specs.Leaves.{Beside}
+use Rattle.stays_formed.proofs.Frames.{off-process}
 use Rattle.claims.proofs.Processes.{replaced}
-use Rattle.fits.proofs.Keeps.{process-other}
-use Rattle.kept.proofs.Collector.{round-place}
-use Rattle.kept.proofs.Leaves.{row-counts, row-others}
+use Rattle.formed.proofs.Keeps.{process-other}
+use Rattle.stays_formed.proofs.Collector.{round-place}
+use Rattle.stays_formed.proofs.Leaves.{row-counts, row-others}
 use Rattle.engine.specs.Steps.{stepOf}
 use Rattle.engine.proofs.Theorems.{answered}
 use Rattle.claims.specs.Posted.{busyOf}
@@ -56,7 +58,7 @@ data Turn (q : Process) (t : State) : Type 0 where
 at-types : {k j : ℕ} {q : Process} → At k j q → typesAt k j ≡ false → typesAt (q .place) (q .stage) ≡ false
 at-types a e = rw (a .place, a .stage) e
 
-round-types : {k j l : ℕ} {t : Kind} {q : Process} (i : ℕ) → Round k t j l → At k i q → eqb i typeStage ≡ false → typesAt (q .place) (q .stage) ≡ false
+round-types : {k j l : ℕ} {t : RoundType} {q : Process} (i : ℕ) → Round k t j l → At k i q → eqb i typeStage ≡ false → typesAt (q .place) (q .stage) ≡ false
 round-types i r a e = at-types a (rw (round-place r, e) refl)
 
 take-types : {q : Process} → (At row6Take noStage q) ⊎ (At row8Take noStage q) → typesAt (q .place) (q .stage) ≡ false
@@ -105,7 +107,7 @@ module _ (s : State) (c : Choice) where
 
 -- ---- a mutator
 data Own (s : State) (p : ℕ) (q : Process) (t : State) : Type 0 where
-  ends : (o : Process) → t .procs ≡ set (s .procs) p o → (i : Kind) → Among (q .place) (answerPlaces i) → amongOf (q .place) finishPlaces ≡ true → o .part .in_step ≡ true → Own s p q t
+  ends : (o : Process) → t .procs ≡ set (s .procs) p o → (i : RoundType) → Among (q .place) (answerPlaces i) → amongOf (q .place) finishPlaces ≡ true → o .part .in_step ≡ true → Own s p q t
   keeps : (o : Process) → t .procs ≡ set (s .procs) p o → amongOf (q .place) finishPlaces ≡ false → o .part ≡ q .part → Own s p q t
 
 mark-place : {q : Process} {r : ℕ} → Marks q r → amongOf (q .place) finishPlaces ≡ false
@@ -133,9 +135,9 @@ module _ (s : State) (c : Choice) (p : ℕ) where
   owned (Mutator.fences-work a b e) = Own.keeps _ refl (rw (a .place) refl) refl
   owned (Mutator.fences-roots a b e h) = Own.keeps _ refl (rw (a .place) refl) refl
   owned (Mutator.fences-none a b e h) = Own.keeps _ refl (rw (a .place) refl) refl
-  owned (Mutator.finishes-noop a b) = Own.ends _ refl kind.Noop (rw (a .place) refl) (rw (a .place) refl) refl
-  owned (Mutator.finishes-roots a b) = Own.ends _ refl kind.Roots (rw (a .place) refl) (rw (a .place) refl) refl
-  owned (Mutator.finishes-work a b) = Own.ends _ refl kind.Work (rw (a .place) refl) (rw (a .place) refl) refl
+  owned (Mutator.finishes-noop a b) = Own.ends _ refl round.Noop (rw (a .place) refl) (rw (a .place) refl) refl
+  owned (Mutator.finishes-roots a b) = Own.ends _ refl round.Roots (rw (a .place) refl) (rw (a .place) refl) refl
+  owned (Mutator.finishes-work a b) = Own.ends _ refl round.Work (rw (a .place) refl) (rw (a .place) refl) refl
 
 -- ---- one row: one more type set or one more answer, or neither
 abbrev Balance : State → Choice → State → ℕ → Type 0
@@ -216,7 +218,7 @@ module _ (m : ℕ) (pos : 0 < m) where
     where
       go : (stepOf s c ≡ takenOf (stepOf s c .state)) ⊎ ((0 < stepOf s c .no) × (stepOf s c ≡ refusedOf (stepOf s c .no) s)) →
           onceOf setsType s c + roundsBehind (processOf s m) ≡ onceOf (finishesAnswer m) s c + roundsBehind (processOf (stepOf s c .state) m)
-      go (inl e) = rw (eq-eqb (stepOf s c .no) 0 (ap (λ (a : Answer). a .no) e)) (row-behind s c m (v .formed) (v .hands) pos mine (taken-row s c e))
+      go (inl e) = rw (eq-eqb (stepOf s c .no) 0 (ap (λ (a : Answer). a .no) e)) (row-behind s c m (v .formed) (v .handshakes) pos mine (taken-row s c e))
       go (inr e) = rw (ne-eqb (stepOf s c .no) 0 (λ i. omega (arith, e .0)), ap (λ (a : Answer). a .state) (e .1)) refl
 
   -- a step leaves the count of mutators
@@ -247,7 +249,7 @@ pub run-behind : RunBehind
 run-behind h w cs m pos mine = settle (run-balance m pos (openingOf h) (opening-inv h w) mine cs)
   where
     start : roundsBehind (processOf (openingOf h) m) ≡ 0
-    start = rw (settled (processOf (openingOf h) 0) m (open-busy h) (opening-inv h w .hands .flags m pos mine) .1) refl
+    start = rw (settled (processOf (openingOf h) 0) m (open-busy h) (opening-inv h w .handshakes .flags m pos mine) .1) refl
 
     settle : timesOf setsType (openingOf h) cs + roundsBehind (processOf (openingOf h) m) ≡ timesOf (finishesAnswer m) (openingOf h) cs + roundsBehind (processOf (runOf (openingOf h) cs) m) →
         timesOf setsType (openingOf h) cs ≡ timesOf (finishesAnswer m) (openingOf h) cs + roundsBehind (processOf (runOf (openingOf h) cs) m)

@@ -1,4 +1,5 @@
--- The flags through each step of the collector's rounds. o is the collector before the step, t after it. Assumes nothing.
+-- The flags through each step of the collector's rounds. o is the collector before the step, t after it. Assumes
+-- nothing.
 --     not-due, not-awaited           where no round raises or polls no flag is due and none awaited
 --     settled                        there a mutator is in step with its flag down
 --     rests-flags                    a step between two such places
@@ -18,7 +19,7 @@ use Rattle.cells.proofs.Members.{not-empty, in-remove, remove-keeps, remove-gon
 use Rattle.state.specs.declared.Part.{Part}
 use Rattle.state.specs.declared.Process.{Process}
 use Rattle.state.specs.Codes.{raiseStage, pollStage}
-use Rattle.fits.specs.Fits.{Among, roundPlaces}
+use Rattle.formed.specs.Fits.{Among, roundPlaces}
 use Rattle.claims.specs.Posted.{busyOf}
 use Rattle.claims.specs.Flags.{Due, Awaited, Flagged}
 use Rattle.claims.proofs.Posted.{Rests}

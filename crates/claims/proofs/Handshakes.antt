@@ -3,9 +3,10 @@
 --     moves, finishes        a mutator's own step: its part is left alone, or its answer is finished
 --     collector-moved, rests, mutator-moved      a process replaced
 --     set-moved, raise-moved the type is set; a flag is raised
---     collector-hands, mutator-hands      every row of the two programs
+--     collector-handshakes, mutator-handshakes      every row of the two programs
 --     step-handshakes        every row
---     settled-handshakes     where no round raises or polls every mutator is in step, with its flag down and the system's phase
+--     settled-handshakes     where no round raises or polls every mutator is in step, with its flag down and the
+--                            system's phase
 --     opening-handshakes     the opening
 use mathlib.Core.Path.{_≡_, refl, sym, subst, _∙_}
 use mathlib.Core.Bool.{Bool, true, false, false≢true}
@@ -25,8 +26,8 @@ use Rattle.memory.specs.declared.Memory.{Memory}
 use Rattle.memory.specs.Memories.{maxProcesses}
 use Rattle.state.specs.declared.Handshake.{Handshake}
 use Rattle.state.specs.declared.Handshake.the-variants as hand
-use Rattle.state.specs.declared.Kind.{Kind}
-use Rattle.state.specs.declared.Kind.the-variants as kind
+use Rattle.state.specs.declared.RoundType.{RoundType}
+use Rattle.state.specs.declared.RoundType.the-variants as round
 use Rattle.state.specs.declared.Part.{Part}
 use Rattle.state.specs.declared.Process.{Process}
 use Rattle.state.specs.declared.State.{State}
@@ -34,16 +35,16 @@ use Rattle.state.specs.declared.Choice.{Choice}
 use Rattle.state.specs.declared.opening.Heap.{Heap}
 use Rattle.state.specs.Codes.{top, storeMarkOld, storeMarkY, storeWrite, noopFence, noopFinish, rootsFence, rootsMark, rootsFinish, workFence, workFinish, noStage, fenceStage, typeStage, raiseStage, pollStage}
 use Rattle.state.specs.States.{noProcess, nextOf, at, leaving, mutatorsOf, processOf, withProcess}
-use Rattle.state.specs.Openings.{openMemory, openCollector, openMutator, openProcess, openHands, rootsAt, openingOf}
-use Rattle.fits.specs.Fits.{Among, roundPlaces, WellFormed, HeapFits}
-use Rattle.fits.proofs.Places.{AllBelow, all-below}
-use Rattle.rows.specs.Rows.{At, Marks, Mark, Mutator, Round, Advance, allOff, withProcesses, flagged, Collector, Row}
-use Rattle.kept.proofs.Frames.{off-process, off-framed}
+use Rattle.state.specs.Openings.{openMemory, openCollector, openMutator, openProcess, openSystem, rootsAt, openingOf}
+use Rattle.formed.specs.Fits.{Among, roundPlaces, WellFormed, HeapFits}
+use Rattle.formed.proofs.Places.{AllBelow, all-below}
+use Rattle.model.specs.Rows.{At, Marks, Mark, Mutator, Round, Advance, allOff, withProcesses, flagged, Collector, Row}
+use Rattle.stays_formed.proofs.Frames.{off-process, off-framed}
 use Rattle.claims.proofs.Processes.{replaced}
-use Rattle.fits.proofs.Keeps.{process-other, keeps-mutator}
-use Rattle.fits.proofs.Gives.{shakes, round-at, collector-within}
-use Rattle.kept.proofs.Collector.{round-place}
-use Rattle.kept.proofs.Leaves.{row-counts}
+use Rattle.formed.proofs.Keeps.{process-other, keeps-mutator}
+use Rattle.formed.proofs.Gives.{shakes, round-at, collector-within}
+use Rattle.stays_formed.proofs.Collector.{round-place}
+use Rattle.stays_formed.proofs.Leaves.{row-counts}
 use Rattle.verdict.specs.Table.{InTable}
 use Rattle.claims.specs.Posted.{postedOf, busyOf}
 use Rattle.claims.specs.Flags.{Due, Flagged}
@@ -55,24 +56,24 @@ use Rattle.claims.proofs.Flags.{not-due, settled, rests-flags, set-flag
 use Rattle.claims.proofs.Answering.{Passes, passes, seat-passes, branch-answers, top-answers}
 
 -- ---- mutator m, which is q, under the type k, the system's phase h and the collector o
-record Stands (k : Kind) (h : Handshake) (o : Process) (m : ℕ) (q : Process) : Type 0 where
+record Stands (k : RoundType) (h : Handshake) (o : Process) (m : ℕ) (q : Process) : Type 0 where
   pub line : InTable (q .part .in_step) k h (q .part .phase)
   pub low : q .part .raised ≡ true → q .part .in_step ≡ false
   pub flags : Flagged o m (q .part)
   pub answers : Answers k q
 
-record Whole (n : ℕ) (k : Kind) (h : Handshake) (qs : List Process) : Type 0 where
+record Whole (n : ℕ) (k : RoundType) (h : Handshake) (qs : List Process) : Type 0 where
   pub told : Told k h (getD qs 0 noProcess)
   pub each : (m : ℕ) → 0 < m → m ≤ n → Stands k h (getD qs 0 noProcess) m (getD qs m noProcess)
 
-to-whole : (s : State) → Handshakes s → Whole (mutatorsOf s) (s .hands .kind) (s .hands .phase) (s .procs)
+to-whole : (s : State) → Handshakes s → Whole (mutatorsOf s) (s .system .kind) (s .system .phase) (s .procs)
 to-whole s w =
     record {
       told = (w .posted, w .typed);
       each = λ m a b. record { line = w .table m a b .line; low = w .table m a b .flag; flags = w .flags m a b; answers = w .answering m a b };
     }
 
-of-whole : (s : State) → Whole (mutatorsOf s) (s .hands .kind) (s .hands .phase) (s .procs) → Handshakes s
+of-whole : (s : State) → Whole (mutatorsOf s) (s .system .kind) (s .system .phase) (s .procs) → Handshakes s
 of-whole s w =
     record {
       posted = w .told .0;
@@ -84,7 +85,7 @@ of-whole s w =
 
 -- ---- a mutator's own step
 -- its part is left alone, and it comes to no other answer
-moves : {k : Kind} {h : Handshake} {o : Process} {m : ℕ} {q t : Process} → t .part ≡ q .part → Passes (q .place) (t .place) → Stands k h o m q → Stands k h o m t
+moves : {k : RoundType} {h : Handshake} {o : Process} {m : ℕ} {q t : Process} → t .part ≡ q .part → Passes (q .place) (t .place) → Stands k h o m q → Stands k h o m t
 moves e f z =
     record {
       line = rw e (z .line);
@@ -94,7 +95,7 @@ moves e f z =
     }
 
 -- an answer of type i is finished
-finishes : {k : Kind} {h : Handshake} {o : Process} {m : ℕ} (i : Kind) (b : Handshake) {q t : Process} → Among (q .place) (answerPlaces i) → (InTable false i h (q .part .phase) → InTable true i h b) →
+finishes : {k : RoundType} {h : Handshake} {o : Process} {m : ℕ} (i : RoundType) (b : Handshake) {q t : Process} → Among (q .place) (answerPlaces i) → (InTable false i h (q .part .phase) → InTable true i h b) →
     t .place ≡ top → t .part ≡ record { raised = false; in_step = true; phase = b } → Stands k h o m q → Stands k h o m t
 finishes {k} {h} {o} {m} i b {q} {t} a l e f z =
     let r = z .answers i a in
@@ -108,7 +109,7 @@ finishes {k} {h} {o} {m} i b {q} {t} a l e f z =
     }
 
 -- the line of a mutator in step under the phase g
-in-step : {b : Bool} {i : Kind} {h g c : Handshake} → h ≡ g → b ≡ true → InTable b i h c → InTable true i g c
+in-step : {b : Bool} {i : RoundType} {h g c : Handshake} → h ≡ g → b ≡ true → InTable b i h c → InTable true i g c
 in-step e f l = rw (e, f) at l
 
 -- a part, by its fields
@@ -116,12 +117,12 @@ shaken : {r i : Bool} {h : Handshake} (p : Part) → p .raised ≡ r → p .in_s
 shaken p e f g = rw (← e, ← f, ← g) refl
 
 -- a round raises and polls from its third stage on
-early : {k j l : ℕ} {t : Kind} (i : ℕ) → Round k t j l → leb raiseStage i ≡ false → busyOf k i ≡ false
+early : {k j l : ℕ} {t : RoundType} (i : ℕ) → Round k t j l → leb raiseStage i ≡ false → busyOf k i ≡ false
 early i r e = rw (round-place r, e) refl
 
 module _ (s : State) (w : WellFormed s) where
   -- ---- one process replaced
-  collector-moved : {k : Kind} {h : Handshake} (t : Process) → Told k h t →
+  collector-moved : {k : RoundType} {h : Handshake} (t : Process) → Told k h t →
       ((m : ℕ) → 0 < m → m ≤ mutatorsOf s → Flagged (processOf s 0) m (processOf s m .part) → Flagged t m (processOf s m .part)) →
       Whole (mutatorsOf s) k h (s .procs) → Whole (mutatorsOf s) k h (set (s .procs) 0 t)
   collector-moved t e f v =
@@ -131,10 +132,10 @@ module _ (s : State) (w : WellFormed s) where
             (record { line = v .each m a b .line; low = v .each m a b .low; flags = f m a b (v .each m a b .flags); answers = v .each m a b .answers });
       }
 
-  rests : {k : Kind} {h : Handshake} (t : Process) → Rests (processOf s 0) t → Whole (mutatorsOf s) k h (s .procs) → Whole (mutatorsOf s) k h (set (s .procs) 0 t)
+  rests : {k : RoundType} {h : Handshake} (t : Process) → Rests (processOf s 0) t → Whole (mutatorsOf s) k h (s .procs) → Whole (mutatorsOf s) k h (set (s .procs) 0 t)
   rests {k} {h} t r v = collector-moved t (r .told k h (v .told)) (λ m a b. rests-flags r) v
 
-  mutator-moved : {k : Kind} {h : Handshake} (p : ℕ) → 0 < p → p ≤ mutatorsOf s → (t : Process) → (Stands k h (processOf s 0) p (processOf s p) → Stands k h (processOf s 0) p t) →
+  mutator-moved : {k : RoundType} {h : Handshake} (p : ℕ) → 0 < p → p ≤ mutatorsOf s → (t : Process) → (Stands k h (processOf s 0) p (processOf s p) → Stands k h (processOf s 0) p t) →
       Whole (mutatorsOf s) k h (s .procs) → Whole (mutatorsOf s) k h (set (s .procs) p t)
   mutator-moved {k} {h} p pos mine t f v =
       record {
@@ -152,7 +153,7 @@ module _ (s : State) (w : WellFormed s) where
   small m b = omega (arith, w .memory .few-processes)
 
   -- the type is set
-  set-moved : {k j l : ℕ} {t i : Kind} {h a : Handshake} → Round k t j l → At k typeStage (processOf s 0) → Advance t h a → Whole (mutatorsOf s) i h (s .procs) →
+  set-moved : {k j l : ℕ} {t i : RoundType} {h a : Handshake} → Round k t j l → At k typeStage (processOf s 0) → Advance t h a → Whole (mutatorsOf s) i h (s .procs) →
       Whole (mutatorsOf s) t a (set (allOff (s .procs)) 0 (at k raiseStage (leaving (fullOf (mutatorsOf s)) (processOf s 0))))
   set-moved {k} {t = t} {i = i} {h = h} {a = a} r p d v =
       let new : Process = at k raiseStage (leaving (fullOf (mutatorsOf s)) (processOf s 0)) in
@@ -175,7 +176,7 @@ module _ (s : State) (w : WellFormed s) where
       }
 
   -- the flag of x is raised
-  raise-moved : {k : Kind} {h : Handshake} (x : ℕ) → 0 < x → x ≤ mutatorsOf s → (t : Process) → Told k h t → Due (processOf s 0) x →
+  raise-moved : {k : RoundType} {h : Handshake} (x : ℕ) → 0 < x → x ≤ mutatorsOf s → (t : Process) → Told k h t → Due (processOf s 0) x →
       ((m : ℕ) → 0 < m → m ≤ mutatorsOf s → (m ≡ x → ⊥) → Flagged (processOf s 0) m (processOf s m .part) → Flagged t m (processOf s m .part)) → Flagged t x (flagged (processOf s x) .part) →
       Whole (mutatorsOf s) k h (s .procs) → Whole (mutatorsOf s) k h (set (set (s .procs) x (flagged (processOf s x))) 0 t)
   raise-moved {k} {h} x pos mine t e d f g v =
@@ -205,99 +206,99 @@ module _ (s : State) (w : WellFormed s) where
   -- ---- the collector's rows
   module _ (c : Choice) where
     -- "x naming the mutator": one that there is
-    offered : {k j l i : ℕ} {t : Kind} → Round k t j l → At k i (processOf s 0) → Member (processOf s 0 .left) (c .x) → (0 < c .x) × (c .x ≤ mutatorsOf s)
+    offered : {k j l i : ℕ} {t : RoundType} → Round k t j l → At k i (processOf s 0) → Member (processOf s 0 .left) (c .x) → (0 < c .x) × (c .x ≤ mutatorsOf s)
     offered r a m = below-range (processOf s 0 .left) (mutatorsOf s) (c .x) (round-at (processOf s 0 .place) (rw (a .place) (round-place r)) refl (w .collector) .left) m
 
-    rounds : {k j l i : ℕ} {t : Kind} → Round k t j l → At k i (processOf s 0) → Among (processOf s 0 .place) roundPlaces
+    rounds : {k j l i : ℕ} {t : RoundType} → Round k t j l → At k i (processOf s 0) → Among (processOf s 0 .place) roundPlaces
     rounds r a = rw (a .place) (round-place r)
 
-    scanned : {r p : ℕ} {k : Kind} {h : Handshake} (t : Process) {m n : Memory} → Marks (processOf s 0) r → Mark m p r (processOf s 0) n t → Whole (mutatorsOf s) k h (s .procs) → Whole (mutatorsOf s) k h (set (s .procs) 0 t)
+    scanned : {r p : ℕ} {k : RoundType} {h : Handshake} (t : Process) {m n : Memory} → Marks (processOf s 0) r → Mark m p r (processOf s 0) n t → Whole (mutatorsOf s) k h (s .procs) → Whole (mutatorsOf s) k h (set (s .procs) 0 t)
     scanned t (Marks.old i) e v = absurd (let b = collector-within (w .collector) .0 in omega arith)
     scanned t (Marks.new i) e v = absurd (let b = collector-within (w .collector) .0 in omega arith)
     scanned t (Marks.root i) e v = absurd (let b = collector-within (w .collector) .0 in omega arith)
     scanned t (Marks.first i) e v = rests t (scan-rests i refl (λ j. refl) (λ j. refl) (mark-seat e)) v
     scanned t (Marks.second i) e v = rests t (scan-rests i refl (λ j. refl) (λ j. refl) (mark-seat e)) v
 
-    collector-hands : {t : State} → Collector s c 0 (processOf s 0) t → Whole (mutatorsOf s) (s .hands .kind) (s .hands .phase) (s .procs) → Whole (mutatorsOf s) (t .hands .kind) (t .hands .phase) (t .procs)
-    collector-hands (Collector.fences {k} r a b e) v = rests (at k typeStage (processOf s 0)) (rest _ a refl (early fenceStage r refl) (early typeStage r refl)) v
-    collector-hands (Collector.types r a b d) v = set-moved r a d v
-    collector-hands (Collector.raises r a b m e) v =
+    collector-handshakes : {t : State} → Collector s c 0 (processOf s 0) t → Whole (mutatorsOf s) (s .system .kind) (s .system .phase) (s .procs) → Whole (mutatorsOf s) (t .system .kind) (t .system .phase) (t .procs)
+    collector-handshakes (Collector.fences {k} r a b e) v = rests (at k typeStage (processOf s 0)) (rest _ a refl (early fenceStage r refl) (early typeStage r refl)) v
+    collector-handshakes (Collector.types r a b d) v = set-moved r a d v
+    collector-handshakes (Collector.raises r a b m e) v =
         let i = offered r a m in
         let g = rounds r a in
         raise-moved (c .x) (i .0) (i .1) _ (v .told) (record { round = g; stage = a .stage; left = m })
         (λ y _ _ n. raise-flags (processOf s 0) (leaving (removeOf (processOf s 0 .left) (c .x)) (processOf s 0)) y (c .x) g g (a .stage) (a .stage) refl n)
         (raised-flags (processOf s 0) (leaving (removeOf (processOf s 0 .left) (c .x)) (processOf s 0)) (c .x) g (a .stage) refl refl) v
-    collector-hands (Collector.raises-last {k} r a b m e) v =
+    collector-handshakes (Collector.raises-last {k} r a b m e) v =
         let i = offered r a m in
         let new : Process = at k pollStage (leaving (fullOf (mutatorsOf s)) (processOf s 0)) in
         raise-moved (c .x) (i .0) (i .1) new (subst (Tells _ _) (at-told a) (v .told)) (record { round = rounds r a; stage = a .stage; left = m })
         (λ y p q n. last-flags (processOf s 0) new y (c .x) (round-place r) e refl (full-has (mutatorsOf s) y p q (small y q)) n)
         (last-raised new (c .x) (round-place r) refl (full-has (mutatorsOf s) (c .x) (i .0) (i .1) (small (c .x) (i .1))) refl) v
-    collector-hands (Collector.polls-up r a b m e) v = collector-moved (processOf s 0) (v .told) (λ y p q f. f) v
-    collector-hands (Collector.polls r a b m e h) v =
+    collector-handshakes (Collector.polls-up r a b m e) v = collector-moved (processOf s 0) (v .told) (λ y p q f. f) v
+    collector-handshakes (Collector.polls r a b m e h) v =
         collector-moved _ (v .told)
         (λ y p q f. poll-flags (processOf s 0) y (a .stage) f (leaving (removeOf (processOf s 0 .left) (c .x)) (processOf s 0)) (c .x) (λ i. rw i e) (rounds r a) (a .stage) refl) v
-    collector-hands (Collector.polls-last {j = j} {l = l} r a b m e h) v =
+    collector-handshakes (Collector.polls-last {j = j} {l = l} r a b m e h) v =
         collector-moved _ (subst (Tells _ _) (at-told a ∙ sym (round-ends r .0)) (v .told))
         (λ y p q f. over-flags (processOf s 0) y (a .stage) f (at j l (leaving noCells (processOf s 0))) (c .x) (λ i. rw i e) (round-ends r .1) h) v
-    collector-hands (Collector.reads-sense a b e) v = rests _ (rest _ a refl refl refl) v
-    collector-hands (Collector.writes-sense a b e) v = rests _ (rest _ a refl refl refl) v
-    collector-hands (Collector.writes-init a b e) v = rests _ (rest _ a refl refl refl) v
-    collector-hands (Collector.writes-mark a b e) v = rests _ (rest _ a refl refl refl) v
-    collector-hands (Collector.writes-alloc a b e) v = rests _ (rest _ a refl refl refl) v
-    collector-hands (Collector.takes a b h) v = rests _ (take-rests _ a refl refl) v
-    collector-hands (Collector.takes-none a b h) v = rests _ (take-rests _ a refl refl) v
-    collector-hands (Collector.reads-first a b m e h) v = rests _ (rest _ a refl refl refl) v
-    collector-hands (Collector.reads-first-null a b m e) v = rests _ (rest _ a refl refl refl) v
-    collector-hands (Collector.marks b i {t = t} e) v = scanned t i e v
-    collector-hands (Collector.reads-second a b e h) v = rests _ (rest _ a refl refl refl) v
-    collector-hands (Collector.reads-second-null a b e) v = rests _ (rest _ a refl refl refl) v
-    collector-hands (Collector.drops a b h) v = rests _ (rest _ a refl refl refl) v
-    collector-hands (Collector.drops-last a b h) v = rests _ (rest _ a refl refl refl) v
-    collector-hands (Collector.writes-sweep a b e) v = rests _ (rest _ a refl refl refl) v
-    collector-hands (Collector.spares a b m e h) v = rests _ (rest _ a (at-told a) refl (rw (a .place) refl)) v
-    collector-hands (Collector.spares-last a b m e h) v = rests _ (rest _ a refl refl refl) v
-    collector-hands (Collector.condemns a b m e) v = rests _ (rest _ a refl refl refl) v
-    collector-hands (Collector.frees a b e h) v = rests _ (rest _ a refl refl refl) v
-    collector-hands (Collector.frees-last a b e h) v = rests _ (rest _ a refl refl refl) v
-    collector-hands (Collector.writes-idle a b e) v = rests _ (rest _ a refl refl refl) v
+    collector-handshakes (Collector.reads-sense a b e) v = rests _ (rest _ a refl refl refl) v
+    collector-handshakes (Collector.writes-sense a b e) v = rests _ (rest _ a refl refl refl) v
+    collector-handshakes (Collector.writes-init a b e) v = rests _ (rest _ a refl refl refl) v
+    collector-handshakes (Collector.writes-mark a b e) v = rests _ (rest _ a refl refl refl) v
+    collector-handshakes (Collector.writes-alloc a b e) v = rests _ (rest _ a refl refl refl) v
+    collector-handshakes (Collector.takes a b h) v = rests _ (take-rests _ a refl refl) v
+    collector-handshakes (Collector.takes-none a b h) v = rests _ (take-rests _ a refl refl) v
+    collector-handshakes (Collector.reads-first a b m e h) v = rests _ (rest _ a refl refl refl) v
+    collector-handshakes (Collector.reads-first-null a b m e) v = rests _ (rest _ a refl refl refl) v
+    collector-handshakes (Collector.marks b i {t = t} e) v = scanned t i e v
+    collector-handshakes (Collector.reads-second a b e h) v = rests _ (rest _ a refl refl refl) v
+    collector-handshakes (Collector.reads-second-null a b e) v = rests _ (rest _ a refl refl refl) v
+    collector-handshakes (Collector.drops a b h) v = rests _ (rest _ a refl refl refl) v
+    collector-handshakes (Collector.drops-last a b h) v = rests _ (rest _ a refl refl refl) v
+    collector-handshakes (Collector.writes-sweep a b e) v = rests _ (rest _ a refl refl refl) v
+    collector-handshakes (Collector.spares a b m e h) v = rests _ (rest _ a (at-told a) refl (rw (a .place) refl)) v
+    collector-handshakes (Collector.spares-last a b m e h) v = rests _ (rest _ a refl refl refl) v
+    collector-handshakes (Collector.condemns a b m e) v = rests _ (rest _ a refl refl refl) v
+    collector-handshakes (Collector.frees a b e h) v = rests _ (rest _ a refl refl refl) v
+    collector-handshakes (Collector.frees-last a b e h) v = rests _ (rest _ a refl refl refl) v
+    collector-handshakes (Collector.writes-idle a b e) v = rests _ (rest _ a refl refl refl) v
 
     -- ---- a mutator's rows
     module _ (p : ℕ) (pos : 0 < p) (mine : p ≤ mutatorsOf s) where
       -- it stays where it is; it goes from place a to place b
-      stays : {k : Kind} {h : Handshake} (t : Process) → t .part ≡ processOf s p .part → t .place ≡ processOf s p .place → Whole (mutatorsOf s) k h (s .procs) → Whole (mutatorsOf s) k h (set (s .procs) p t)
+      stays : {k : RoundType} {h : Handshake} (t : Process) → t .part ≡ processOf s p .part → t .place ≡ processOf s p .place → Whole (mutatorsOf s) k h (s .procs) → Whole (mutatorsOf s) k h (set (s .procs) p t)
       stays t e f v = mutator-moved p pos mine t (moves e (rw f (λ i u. u))) v
 
-      goes : {k : Kind} {h : Handshake} (a b : ℕ) (t : Process) → t .part ≡ processOf s p .part → At a noStage (processOf s p) → t .place ≡ b → Passes a b →
+      goes : {k : RoundType} {h : Handshake} (a b : ℕ) (t : Process) → t .part ≡ processOf s p .part → At a noStage (processOf s p) → t .place ≡ b → Passes a b →
           Whole (mutatorsOf s) k h (s .procs) → Whole (mutatorsOf s) k h (set (s .procs) p t)
       goes a b t e f g r v = mutator-moved p pos mine t (moves e (rw (f .place, g) r)) v
 
-      mutator-hands : {t : State} → Mutator s c p (processOf s p) t → Whole (mutatorsOf s) (s .hands .kind) (s .hands .phase) (s .procs) → Whole (mutatorsOf s) (t .hands .kind) (t .hands .phase) (t .procs)
-      mutator-hands (Mutator.allocates a o x l g y e) v = stays _ refl refl v
-      mutator-hands (Mutator.drops a o m g y) v = stays _ refl refl v
-      mutator-hands (Mutator.reads a o m g y e h) v = stays _ refl refl v
-      mutator-hands (Mutator.reads-null a o m g y e) v = stays _ refl refl v
-      mutator-hands (Mutator.stores a o m g y e h) v = goes top storeMarkOld _ refl a refl (passes top storeMarkOld refl refl refl) v
-      mutator-hands (Mutator.stores-new a o m g y e) v = goes top storeMarkY _ refl a refl (passes top storeMarkY refl refl refl) v
-      mutator-hands (Mutator.stores-null a o m g y e) v = goes top storeWrite _ refl a refl (passes top storeWrite refl refl refl) v
-      mutator-hands (Mutator.fences a o x g y e) v = stays _ refl refl v
-      mutator-hands (Mutator.answers a o x g y u {k} b) v =
+      mutator-handshakes : {t : State} → Mutator s c p (processOf s p) t → Whole (mutatorsOf s) (s .system .kind) (s .system .phase) (s .procs) → Whole (mutatorsOf s) (t .system .kind) (t .system .phase) (t .procs)
+      mutator-handshakes (Mutator.allocates a o x l g y e) v = stays _ refl refl v
+      mutator-handshakes (Mutator.drops a o m g y) v = stays _ refl refl v
+      mutator-handshakes (Mutator.reads a o m g y e h) v = stays _ refl refl v
+      mutator-handshakes (Mutator.reads-null a o m g y e) v = stays _ refl refl v
+      mutator-handshakes (Mutator.stores a o m g y e h) v = goes top storeMarkOld _ refl a refl (passes top storeMarkOld refl refl refl) v
+      mutator-handshakes (Mutator.stores-new a o m g y e) v = goes top storeMarkY _ refl a refl (passes top storeMarkY refl refl refl) v
+      mutator-handshakes (Mutator.stores-null a o m g y e) v = goes top storeWrite _ refl a refl (passes top storeWrite refl refl refl) v
+      mutator-handshakes (Mutator.fences a o x g y e) v = stays _ refl refl v
+      mutator-handshakes (Mutator.answers a o x g y u {k} b) v =
           mutator-moved p pos mine (at k noStage (processOf s p)) (λ z. record { line = z .line; low = z .low; flags = z .flags; answers = λ i f. (u, branch-answers b i f) }) v
-      mutator-hands (Mutator.marks b i h {t = t} e) v = mutator-moved p pos mine t (moves (mark-part e) (seat-passes (mark-seat e))) v
-      mutator-hands (Mutator.looks-root a o m e) v = mutator-moved p pos mine _ (moves refl (rw (a .place) (λ i u. u))) v
-      mutator-hands (Mutator.writes a b e) v = goes storeWrite top _ refl a refl (passes storeWrite top refl refl refl) v
-      mutator-hands (Mutator.fences-noop a b e) v = goes noopFence noopFinish _ refl a refl (passes noopFence noopFinish refl refl refl) v
-      mutator-hands (Mutator.fences-work a b e) v = goes workFence workFinish _ refl a refl (passes workFence workFinish refl refl refl) v
-      mutator-hands (Mutator.fences-roots a b e h) v = goes rootsFence rootsMark _ refl a refl (passes rootsFence rootsMark refl refl refl) v
-      mutator-hands (Mutator.fences-none a b e h) v = goes rootsFence rootsFinish _ refl a refl (passes rootsFence rootsFinish refl refl refl) v
-      mutator-hands (Mutator.finishes-noop a b) v = mutator-moved p pos mine _ (finishes kind.Noop (nextOf (processOf s p .part .phase)) (rw (a .place) refl) noop-line refl refl) v
-      mutator-hands (Mutator.finishes-roots a b) v = mutator-moved p pos mine _ (finishes kind.Roots (nextOf (processOf s p .part .phase)) (rw (a .place) refl) roots-line refl refl) v
-      mutator-hands (Mutator.finishes-work a b) v = mutator-moved p pos mine _ (finishes kind.Work (processOf s p .part .phase) (rw (a .place) refl) work-line refl refl) v
+      mutator-handshakes (Mutator.marks b i h {t = t} e) v = mutator-moved p pos mine t (moves (mark-part e) (seat-passes (mark-seat e))) v
+      mutator-handshakes (Mutator.looks-root a o m e) v = mutator-moved p pos mine _ (moves refl (rw (a .place) (λ i u. u))) v
+      mutator-handshakes (Mutator.writes a b e) v = goes storeWrite top _ refl a refl (passes storeWrite top refl refl refl) v
+      mutator-handshakes (Mutator.fences-noop a b e) v = goes noopFence noopFinish _ refl a refl (passes noopFence noopFinish refl refl refl) v
+      mutator-handshakes (Mutator.fences-work a b e) v = goes workFence workFinish _ refl a refl (passes workFence workFinish refl refl refl) v
+      mutator-handshakes (Mutator.fences-roots a b e h) v = goes rootsFence rootsMark _ refl a refl (passes rootsFence rootsMark refl refl refl) v
+      mutator-handshakes (Mutator.fences-none a b e h) v = goes rootsFence rootsFinish _ refl a refl (passes rootsFence rootsFinish refl refl refl) v
+      mutator-handshakes (Mutator.finishes-noop a b) v = mutator-moved p pos mine _ (finishes round.Noop (nextOf (processOf s p .part .phase)) (rw (a .place) refl) noop-line refl refl) v
+      mutator-handshakes (Mutator.finishes-roots a b) v = mutator-moved p pos mine _ (finishes round.Roots (nextOf (processOf s p .part .phase)) (rw (a .place) refl) roots-line refl refl) v
+      mutator-handshakes (Mutator.finishes-work a b) v = mutator-moved p pos mine _ (finishes round.Work (processOf s p .part .phase) (rw (a .place) refl) work-line refl refl) v
 
 -- ---- every row
-row-whole : (s : State) (c : Choice) {t : State} → WellFormed s → Row s c t → Whole (mutatorsOf s) (s .hands .kind) (s .hands .phase) (s .procs) → Whole (mutatorsOf s) (t .hands .kind) (t .hands .phase) (t .procs)
-row-whole s c w (Row.collector k z r) = collector-hands s w c r
-row-whole s c w (Row.mutator k {p = p} e pos mine r) = mutator-hands s w c p pos mine r
+row-whole : (s : State) (c : Choice) {t : State} → WellFormed s → Row s c t → Whole (mutatorsOf s) (s .system .kind) (s .system .phase) (s .procs) → Whole (mutatorsOf s) (t .system .kind) (t .system .phase) (t .procs)
+row-whole s c w (Row.collector k z r) = collector-handshakes s w c r
+row-whole s c w (Row.mutator k {p = p} e pos mine r) = mutator-handshakes s w c p pos mine r
 row-whole s c w (Row.commits k e mine b h) = λ v. v
 
 pub step-handshakes : (s : State) (c : Choice) {t : State} → WellFormed s → Handshakes s → Row s c t → Handshakes t
@@ -305,14 +306,14 @@ step-handshakes s c {t} w v r = of-whole t (rw (row-counts r .processes) (row-wh
 
 -- ---- between the rounds
 pub settled-handshakes : (s : State) → Handshakes s → busyOf (processOf s 0 .place) (processOf s 0 .stage) ≡ false → (m : ℕ) → 0 < m → m ≤ mutatorsOf s →
-    processOf s m .part ≡ record { raised = false; in_step = true; phase = s .hands .phase }
+    processOf s m .part ≡ record { raised = false; in_step = true; phase = s .system .phase }
 settled-handshakes s v e m a b =
     let f = settled (processOf s 0) m e (v .flags m a b) in
     shaken (processOf s m .part) (f .0) (f .1) (same-phase (in-step refl (f .1) (v .table m a b .line)))
 
 -- ---- the opening
 module _ (h : Heap) (w : HeapFits h) where
-  opened : (p r : ℕ) → p < h .processes → Stands kind.Roots hand.IdleMarkSweep openCollector p (openProcess h p r)
+  opened : (p r : ℕ) → p < h .processes → Stands round.Roots hand.IdleMarkSweep openCollector p (openProcess h p r)
   unfolding openProcess openMutator openCollector
   opened p r l =
       rw (lt-ltb p (h .processes) l)
@@ -324,15 +325,15 @@ module _ (h : Heap) (w : HeapFits h) where
       })
 
   abbrev Opens : ℕ → Type 0
-  Opens p = 0 < p → p ≤ h .processes - 1 → Stands kind.Roots hand.IdleMarkSweep openCollector p (processOf (openingOf h) p)
+  Opens p = 0 < p → p ≤ h .processes - 1 → Stands round.Roots hand.IdleMarkSweep openCollector p (processOf (openingOf h) p)
 
   open-mutators : AllBelow Opens maxProcesses
   unfolding openingOf
   open-mutators =
       (((((tt, λ a b. absurd (omega arith)), λ a b. opened 1 (rootsAt h 0) (omega arith)), λ a b. opened 2 (rootsAt h 1) (omega arith)), λ a b. opened 3 (rootsAt h 2) (omega arith)), λ a b. opened 4 (rootsAt h 3) (omega arith))
 
-  open-whole : Whole (mutatorsOf (openingOf h)) (openingOf h .hands .kind) (openingOf h .hands .phase) (openingOf h .procs)
-  unfolding openingOf openMemory openHands openCollector
+  open-whole : Whole (mutatorsOf (openingOf h)) (openingOf h .system .kind) (openingOf h .system .phase) (openingOf h .procs)
+  unfolding openingOf openMemory openSystem openCollector
   open-whole = record { told = (refl, inl refl); each = λ m a b. all-below Opens maxProcesses open-mutators m (omega (arith, w .most)) a b }
 
   pub opening-handshakes : Handshakes (openingOf h)

@@ -9,10 +9,10 @@ use Rattle.state.specs.declared.State.{State}
 use Rattle.state.specs.declared.Choice.{Choice}
 use Rattle.state.specs.declared.opening.Heap.{Heap}
 use Rattle.state.specs.Openings.{openingOf}
-use Rattle.fits.specs.Fits.{HeapFits}
-use Rattle.fits.proofs.Opens.{opening-formed}
-use Rattle.rows.specs.Rows.{Row}
-use Rattle.kept.proofs.Kept.{row-kept}
+use Rattle.formed.specs.Fits.{HeapFits}
+use Rattle.formed.proofs.Opens.{opening-formed}
+use Rattle.model.specs.Rows.{Row}
+use Rattle.stays_formed.proofs.Kept.{row-kept}
 use Rattle.engine.specs.Steps.{stepOf}
 use Rattle.claims.specs.Runs.{runOf}
 use Rattle.claims.specs.Inv.{Inv, RunInv}
@@ -27,7 +27,7 @@ pub opening-inv : (h : Heap) → HeapFits h → Inv (openingOf h)
 opening-inv h f =
     record {
       formed = opening-formed h f;
-      hands = opening-handshakes h f;
+      handshakes = opening-handshakes h f;
       lock = opening-lock h f;
       marks = opening-marks h f;
       stores = opening-mutator-stores h f;
@@ -40,12 +40,12 @@ row-inv s c t v r =
     let w = v .formed in
     record {
       formed = row-kept s c w r;
-      hands = step-handshakes s c w (v .hands) r;
+      handshakes = step-handshakes s c w (v .handshakes) r;
       lock = step-lock s c w (v .lock) r;
       marks = step-marks s c w (v .marks) r;
       stores = step-mutator-stores s c w (v .stores) r;
       written = step-written s c w (v .stores) (v .written) r;
-      noted = step-noted s c w (v .stores) (v .hands) (v .written) (v .noted) r;
+      noted = step-noted s c w (v .stores) (v .handshakes) (v .written) (v .noted) r;
     }
 
 pub step-inv : (s : State) (c : Choice) → Inv s → Inv (stepOf s c .state)

@@ -13,15 +13,15 @@ use Rattle.cells.proofs.Bools.{not-both}
 use Rattle.memory.specs.declared.Memory.{Memory}
 use Rattle.memory.proofs.Shapes.{Shaped}
 use Rattle.memory.proofs.Effects.{write-taken, lock-taken, unlock-taken, commit-taken}
-use Rattle.sound.proofs.Shapes.{shaped}
+use Rattle.memory_formed.proofs.Shapes.{shaped}
 use Rattle.state.specs.declared.Process.{Process}
 use Rattle.state.specs.declared.State.{State}
 use Rattle.state.specs.declared.Choice.{Choice}
 use Rattle.state.specs.declared.opening.Heap.{Heap}
 use Rattle.state.specs.States.{processOf}
 use Rattle.state.specs.Openings.{openMemory, openCollector, openMutator, openProcess, openingOf}
-use Rattle.fits.specs.Fits.{HeapFits, WellFormed}
-use Rattle.rows.specs.Rows.{Row}
+use Rattle.formed.specs.Fits.{HeapFits, WellFormed}
+use Rattle.model.specs.Rows.{Row}
 use Rattle.claims.specs.Lock.{insideAt, Inside, Lock, LockFree}
 use Rattle.claims.proofs.Moves.{insideOf, Outer, Goes, row-goes, others-inside}
 

@@ -1,4 +1,5 @@
--- Demand 3 holds of the judge's own run: its states are those that the choices of the records taken lead to from the opening. Assumes nothing.
+-- Demand 3 holds of the judge's own run: its states are those that the choices of the records taken lead to from the
+-- opening. Assumes nothing.
 use mathlib.Core.Path.{_≡_, sym, subst}
 use mathlib.Core.List.{List}
 use Prim.Native.Nat.{ℕ, _+_}

@@ -1,7 +1,9 @@
--- Each step seen from its compare and swap: what it does to the lock, to the pending stores and to the place of the process that steps. Assumes nothing.
+-- Each step seen from its compare and swap: what it does to the lock, to the pending stores and to the place of the
+-- process that steps. Assumes nothing.
 --     Goes           the six kinds of step
 --     row-goes       every row is of one of the kinds
---     allocates-quiet, frees-quiet         allocating and freeing leave the lock, the pending stores, the senses and the phase
+--     allocates-quiet, frees-quiet         allocating and freeing leave the lock, the pending stores, the senses and
+--                                          the phase
 --     site                                 the place of a mark
 --     others-inside, others-unlocking      another process stays inside its compare and swap, at its unlock, or outside
 --     outside-unlocking                    outside there is no unlock
@@ -21,24 +23,24 @@ use Rattle.memory.specs.Memories.{maxCells, maxProcesses, taken}
 use Rattle.memory.specs.Steps.{writeOf, commitOf, lockOf, unlockOf, allocateOf, freeOf}
 use Rattle.memory.specs.Views.{pendingFor}
 use Rattle.memory.proofs.Effects.{Reset, allocate-taken, free-taken}
-use Rattle.sound.specs.WellFormed as sound
-use Rattle.sound.proofs.Shapes.{shaped}
-use Rattle.state.specs.declared.Kind.{Kind}
+use Rattle.memory_formed.specs.WellFormed as sound
+use Rattle.memory_formed.proofs.Shapes.{shaped}
+use Rattle.state.specs.declared.RoundType.{RoundType}
 use Rattle.state.specs.declared.Process.{Process}
 use Rattle.state.specs.declared.State.{State}
 use Rattle.state.specs.declared.Choice.{Choice}
 use Rattle.state.specs.Codes.{storeMarkOld, noStage, senseStage, phaseStage, lockStage, againStage, writeStage, unlockStage, fenceStage, typeStage, raiseStage, pollStage}
-use Rattle.state.specs.States.{mutatorsOf, processOf, withProcess, withMemory, withHands}
-use Rattle.fits.specs.Fits.{CollectorFits, WellFormed}
-use Rattle.fits.proofs.Gives.{sweep-free-at}
-use Rattle.rows.specs.Offers.{markPlace}
-use Rattle.rows.specs.Rows.{At, Marks, Next, Mark, Mutator, Branch, Round, withList, allOff, withProcesses, flagged, Collector, Row}
-use Rattle.rows.specs.Reasons.{mover}
-use Rattle.kept.specs.Leaves.{Beside}
-use Rattle.kept.proofs.Frames.{named}
+use Rattle.state.specs.States.{mutatorsOf, processOf, withProcess, withMemory, withSystem}
+use Rattle.formed.specs.Fits.{CollectorFits, WellFormed}
+use Rattle.formed.proofs.Gives.{sweep-free-at}
+use Rattle.model.specs.Offers.{markPlace}
+use Rattle.model.specs.Rows.{At, Marks, Next, Mark, Mutator, Branch, Round, withList, allOff, withProcesses, flagged, Collector, Row}
+use Rattle.model.specs.Reasons.{mover}
+use Rattle.stays_formed.specs.Leaves.{Beside}
+use Rattle.stays_formed.proofs.Frames.{named}
 use Rattle.claims.proofs.Processes.{arrived}
-use Rattle.kept.proofs.Kept.{row-kept}
-use Rattle.kept.proofs.Leaves.{row-others}
+use Rattle.stays_formed.proofs.Kept.{row-kept}
+use Rattle.stays_formed.proofs.Leaves.{row-others}
 use Rattle.claims.specs.Lock.{insideAt, Inside}
 use Rattle.claims.specs.Pending.{isMark, MarkOrField, unlockAt, Unlocking}
 
@@ -136,7 +138,7 @@ next-out (Next.root e h) = refl
 next-out (Next.first e) = refl
 next-out (Next.second e) = refl
 
-round-out : {k j l : ℕ} {t : Kind} (i : ℕ) → Round k t j l → insideAt k i ≡ false
+round-out : {k j l : ℕ} {t : RoundType} (i : ℕ) → Round k t j l → insideAt k i ≡ false
 unfolding insideAt
 round-out i Round.row1 = refl
 round-out i Round.row3 = refl
@@ -145,7 +147,7 @@ round-out i Round.row5 = refl
 round-out i Round.row6 = refl
 round-out i Round.row8 = refl
 
-round-next : {k j l : ℕ} {t : Kind} → Round k t j l → insideAt j l ≡ false
+round-next : {k j l : ℕ} {t : RoundType} → Round k t j l → insideAt j l ≡ false
 unfolding insideAt
 round-next Round.row1 = refl
 round-next Round.row3 = refl
@@ -154,7 +156,7 @@ round-next Round.row5 = refl
 round-next Round.row6 = refl
 round-next Round.row8 = refl
 
-branch-out : {k : Kind} {j : ℕ} (i : ℕ) → Branch k j → insideAt j i ≡ false
+branch-out : {k : RoundType} {j : ℕ} (i : ℕ) → Branch k j → insideAt j i ≡ false
 unfolding insideAt
 branch-out i Branch.noop = refl
 branch-out i Branch.roots = refl
@@ -203,8 +205,8 @@ module _ (s : State) (w : WellFormed s) (c : Choice) (p : ℕ) (q : Process) whe
   mutator-goes (Mutator.fences-roots a b e h) = went s _ (rest _ (out a refl) refl)
   mutator-goes (Mutator.fences-none a b e h) = went s _ (rest _ (out a refl) refl)
   mutator-goes (Mutator.finishes-noop a b) = went s _ (rest _ (out a refl) refl)
-  mutator-goes (Mutator.finishes-roots a b) = went (withHands s (withList (s .hands) _)) _ (rest _ (out a refl) refl)
-  mutator-goes (Mutator.finishes-work a b) = went (withHands s (withList (s .hands) _)) _ (rest _ (out a refl) refl)
+  mutator-goes (Mutator.finishes-roots a b) = went (withSystem s (withList (s .system) _)) _ (rest _ (out a refl) refl)
+  mutator-goes (Mutator.finishes-work a b) = went (withSystem s (withList (s .system) _)) _ (rest _ (out a refl) refl)
 
 -- the collector is process 0: no word of a mutator's stores
 module _ (s : State) (w : WellFormed s) (c : Choice) (q : Process) (f : CollectorFits (s .memory .cells) (mutatorsOf s) q) where
@@ -214,7 +216,7 @@ module _ (s : State) (w : WellFormed s) (c : Choice) (q : Process) (f : Collecto
   collector-goes : {t : State} → Collector s c 0 q t → Went s 0 q t
   unfolding insideAt
   collector-goes (Collector.fences r a b e) = went s _ (rest s w c 0 q _ (out a (round-out fenceStage r)) (round-out typeStage r))
-  collector-goes (Collector.types r a b v) = went (withProcesses (withHands s _) (allOff (s .procs))) _ (rest s w c 0 q _ (out a (round-out typeStage r)) (round-out raiseStage r))
+  collector-goes (Collector.types r a b v) = went (withProcesses (withSystem s _) (allOff (s .procs))) _ (rest s w c 0 q _ (out a (round-out typeStage r)) (round-out raiseStage r))
   collector-goes (Collector.raises r a b m e) = went (withProcess s (c .x) (flagged (processOf s (c .x)))) _ (rest s w c 0 q _ (out a (round-out raiseStage r)) (out a (round-out raiseStage r)))
   collector-goes (Collector.raises-last r a b m e) = went (withProcess s (c .x) (flagged (processOf s (c .x)))) _ (rest s w c 0 q _ (out a (round-out raiseStage r)) (round-out pollStage r))
   collector-goes (Collector.polls-up r a b m e) = went s _ (rest s w c 0 q _ (out a (round-out pollStage r)) (out a (round-out pollStage r)))
@@ -225,8 +227,8 @@ module _ (s : State) (w : WellFormed s) (c : Choice) (q : Process) (f : Collecto
   collector-goes (Collector.writes-init a b {m} e) = went (withMemory s m) _ (write-out a refl _ refl (store.Phase phase.Init) refl e)
   collector-goes (Collector.writes-mark a b {m} e) = went (withMemory s m) _ (write-out a refl _ refl (store.Phase phase.Mark) refl e)
   collector-goes (Collector.writes-alloc a b {m} e) = went (withMemory s m) _ (write-out a refl _ refl (store.AllocSense (q .sense)) refl e)
-  collector-goes (Collector.takes a b h) = went (withHands s (withList (s .hands) noCells)) _ (rest s w c 0 q _ (⊎-elim (λ i. out i refl) (λ i. out i refl) a) refl)
-  collector-goes (Collector.takes-none a b h) = went (withHands s (withList (s .hands) noCells)) _ (rest s w c 0 q _ (⊎-elim (λ i. out i refl) (λ i. out i refl) a) refl)
+  collector-goes (Collector.takes a b h) = went (withSystem s (withList (s .system) noCells)) _ (rest s w c 0 q _ (⊎-elim (λ i. out i refl) (λ i. out i refl) a) refl)
+  collector-goes (Collector.takes-none a b h) = went (withSystem s (withList (s .system) noCells)) _ (rest s w c 0 q _ (⊎-elim (λ i. out i refl) (λ i. out i refl) a) refl)
   collector-goes (Collector.reads-first a b m e h) = went s _ (rest s w c 0 q _ (out a refl) refl)
   collector-goes (Collector.reads-first-null a b m e) = went s _ (rest s w c 0 q _ (out a refl) refl)
   collector-goes (Collector.marks b i {m} e) = went (withMemory s m) _ (mark-goes i e)

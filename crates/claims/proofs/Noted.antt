@@ -32,25 +32,25 @@ use Rattle.memory.proofs.Shapes.{Shaped, pending-is, view-misses}
 use Rattle.memory.proofs.Spots.{held-phase}
 use Rattle.memory.proofs.Sights.{look-phase-taken}
 use Rattle.memory.proofs.Effects.{write-taken, lock-taken, unlock-taken, commit-taken}
-use Rattle.sound.specs.WellFormed as sound
-use Rattle.sound.proofs.Shapes.{shaped}
+use Rattle.memory_formed.specs.WellFormed as sound
+use Rattle.memory_formed.proofs.Shapes.{shaped}
 use Rattle.state.specs.declared.Handshake.the-variants as hand
-use Rattle.state.specs.declared.Kind.{Kind}
+use Rattle.state.specs.declared.RoundType.{RoundType}
 use Rattle.state.specs.declared.Process.{Process}
 use Rattle.state.specs.declared.State.{State}
 use Rattle.state.specs.declared.Choice.{Choice}
 use Rattle.state.specs.declared.opening.Heap.{Heap}
 use Rattle.state.specs.Openings.{openMutator, openProcess, openingOf}
 use Rattle.state.specs.Codes.{phaseStage, lockStage, againStage, writeStage, unlockStage}
-use Rattle.state.specs.States.{noProcess, mutatorsOf, processOf, withProcess, withMemory, withHands}
-use Rattle.fits.specs.Fits.{HeapFits, WellFormed}
-use Rattle.rows.specs.Offers.{markPlace}
-use Rattle.rows.specs.Rows.{At, seesPhase, Marks, Next, Mark, Branch, Mutator, withList, Row}
-use Rattle.kept.specs.Leaves.{Beside}
-use Rattle.kept.proofs.Frames.{named}
+use Rattle.state.specs.States.{noProcess, mutatorsOf, processOf, withProcess, withMemory, withSystem}
+use Rattle.formed.specs.Fits.{HeapFits, WellFormed}
+use Rattle.model.specs.Offers.{markPlace}
+use Rattle.model.specs.Rows.{At, seesPhase, Marks, Next, Mark, Branch, Mutator, withList, Row}
+use Rattle.stays_formed.specs.Leaves.{Beside}
+use Rattle.stays_formed.proofs.Frames.{named}
 use Rattle.claims.proofs.Processes.{arrived}
-use Rattle.kept.proofs.Kept.{row-kept}
-use Rattle.kept.proofs.Leaves.{row-others, row-counts}
+use Rattle.stays_formed.proofs.Kept.{row-kept}
+use Rattle.stays_formed.proofs.Leaves.{row-others, row-counts}
 use Rattle.claims.specs.Lock.{insideAt, Inside, Lock}
 use Rattle.claims.specs.Pending.{MarkOrField, MarksAndFields, MutatorStores}
 use Rattle.claims.specs.Handshakes.{Handshakes}
@@ -82,7 +82,7 @@ next-early (Next.root e z) = record { sense = refl; lock = refl }
 next-early (Next.first e) = record { sense = refl; lock = refl }
 next-early (Next.second e) = record { sense = refl; lock = refl }
 
-branch-early : {k : Kind} {j : ℕ} → Branch k j → (i : ℕ) → (reachedAt phaseStage j i ≡ false) × (reachedAt lockStage j i ≡ false)
+branch-early : {k : RoundType} {j : ℕ} → Branch k j → (i : ℕ) → (reachedAt phaseStage j i ≡ false) × (reachedAt lockStage j i ≡ false)
 branch-early Branch.noop i = (refl, refl)
 branch-early Branch.roots i = (refl, refl)
 branch-early Branch.work i = (refl, refl)
@@ -166,8 +166,8 @@ module _ (s : State) (c : Choice) (p : ℕ) (w : WellFormed s) where
   mutator-noted f d v (Mutator.fences-roots a b e h) = fresh s _ refl refl
   mutator-noted f d v (Mutator.fences-none a b e h) = fresh s _ refl refl
   mutator-noted f d v (Mutator.finishes-noop a b) = fresh s _ refl refl
-  mutator-noted f d v (Mutator.finishes-roots a b) = fresh (withHands s (withList (s .hands) _)) _ refl refl
-  mutator-noted f d v (Mutator.finishes-work a b) = fresh (withHands s (withList (s .hands) _)) _ refl refl
+  mutator-noted f d v (Mutator.finishes-roots a b) = fresh (withSystem s (withList (s .system) _)) _ refl refl
+  mutator-noted f d v (Mutator.finishes-work a b) = fresh (withSystem s (withList (s .system) _)) _ refl refl
 
 -- ---- memory's fM stays, or the store that is committed is of fM
 data Moved (p : ℕ) (m n : Memory) : Type 0 where

@@ -12,16 +12,17 @@ use lib.Dec.{eqb}
 use borrow.Author.Tests.{eq-eqb, ne-eqb}
 use Rattle.base.specs.Pick.{pick}
 use Rattle.base.proofs.Picking.{picked}
+use Rattle.base.specs.Refusals.{asTaken}
 use Rattle.cells.specs.Sets.{maxSet, memberOf, addOf, removeOf}
 use Rattle.cells.proofs.Members.{add-same, add-keeps, in-add, remove-gone, in-remove, remove-keeps}
 use Rattle.cells.proofs.Bools.{same-test}
 use Rattle.buffers.specs.declared.Store.{Store}
 use Rattle.buffers.specs.declared.Spot.{Spot}
 use Rattle.memory.specs.declared.Memory.{Memory}
-use Rattle.memory.specs.Memories.{usedOf, asTaken}
+use Rattle.memory.specs.Memories.{usedOf}
 use Rattle.memory.proofs.Shapes.{Shaped}
 use Rattle.memory.proofs.Effects.{fence-taken, write-settled, commit-settled, lock-settled, unlock-settled, allocate-used, free-used}
-use Rattle.sound.proofs.Shapes.{shaped}
+use Rattle.memory_formed.proofs.Shapes.{shaped}
 use Rattle.state.specs.declared.Process.{Process}
 use Rattle.state.specs.declared.State.{State}
 use Rattle.state.specs.declared.Choice.{Choice}
@@ -30,14 +31,14 @@ use Rattle.state.specs.declared.opening.Heap.{Heap}
 use Rattle.state.specs.Codes.{top, storeWrite, noopFence, rootsFence, workFence, row2Read, row2Write, row4Write, row5Phase, row5Alloc, row7Read0, row7Read1, row9Write, row10Look, row10Free, row11Write, lookStage, senseStage, phaseStage, lockStage, againStage, writeStage, fenceStage}
 use Rattle.state.specs.States.{takenOf, refusedOf}
 use Rattle.state.specs.Openings.{openMemory, openingOf}
-use Rattle.fits.specs.Fits.{WellFormed}
-use Rattle.fits.proofs.Opens.{opening-formed}
-use Rattle.rows.specs.Deeds.{Deed, topDeed, markDeed, rowDeed, deedOf}
-use Rattle.rows.specs.Offers.{markPlace, roundPlace}
-use Rattle.rows.specs.Rows.{Row}
-use Rattle.rows.specs.Reasons.{mover}
-use Rattle.kept.specs.Deeds.{Does}
-use Rattle.kept.proofs.Deeds.{row-deed}
+use Rattle.formed.specs.Fits.{WellFormed}
+use Rattle.formed.proofs.Opens.{opening-formed}
+use Rattle.model.specs.Deeds.{Deed, topDeed, markDeed, rowDeed, deedOf}
+use Rattle.model.specs.Offers.{markPlace, roundPlace}
+use Rattle.model.specs.Rows.{Row}
+use Rattle.model.specs.Reasons.{mover}
+use Rattle.stays_formed.specs.Deeds.{Does}
+use Rattle.stays_formed.proofs.Deeds.{row-deed}
 use Rattle.engine.specs.Steps.{stepOf}
 use Rattle.engine.proofs.Theorems.{answered, kept}
 use Rattle.claims.specs.Runs.{runOf}

@@ -1,4 +1,5 @@
--- A mark waits in a buffer only at its unlock, and so under the lock, one at most; a mutator has only marks and fields pending. Assumes nothing.
+-- A mark waits in a buffer only at its unlock, and so under the lock, one at most; a mutator has only marks and
+-- fields pending. Assumes nothing.
 --     opening-marks, step-marks                   MarksWait at the opening, and after each step
 --     opening-mutator-stores, step-mutator-stores     MutatorStores likewise
 --     marks-locked                                with the lock's law: under the lock, and one in all buffers
@@ -18,15 +19,15 @@ use Rattle.memory.specs.declared.Memory.{Memory}
 use Rattle.memory.specs.Views.{pendingFor}
 use Rattle.memory.proofs.Shapes.{Shaped, pending-is}
 use Rattle.memory.proofs.Effects.{write-taken, lock-taken, unlock-taken, commit-taken}
-use Rattle.sound.proofs.Shapes.{shaped}
+use Rattle.memory_formed.proofs.Shapes.{shaped}
 use Rattle.state.specs.declared.Process.{Process}
 use Rattle.state.specs.declared.State.{State}
 use Rattle.state.specs.declared.Choice.{Choice}
 use Rattle.state.specs.declared.opening.Heap.{Heap}
 use Rattle.state.specs.States.{processOf}
 use Rattle.state.specs.Openings.{openMemory, openingOf}
-use Rattle.fits.specs.Fits.{HeapFits, WellFormed}
-use Rattle.rows.specs.Rows.{Row}
+use Rattle.formed.specs.Fits.{HeapFits, WellFormed}
+use Rattle.model.specs.Rows.{Row}
 use Rattle.claims.specs.Lock.{Inside, Lock}
 use Rattle.claims.specs.Pending.{waitingOf, isMark, marksIn, OneAtMost, Unlocking, MarksWait, MarksLocked, MarkOrField, MarksAndFields, MutatorStores}
 use Rattle.claims.proofs.Moves.{insideOf, unlockOn, Outer, Goes, row-goes, others-unlocking, outside-unlocking}

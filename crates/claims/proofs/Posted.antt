@@ -1,11 +1,14 @@
 -- Where the collector's steps lead, and the system's handshake phase and type there. Assumes nothing.
---     toldOf, Tells, Told    what a place and stage tell; the type k and the phase h are as told; they are as the collector's place and stage tell
+--     toldOf, Tells, Told    what a place and stage tell; the type k and the phase h are as told; they are as the
+--                            collector's place and stage tell
 --     at-told                what is told at a place and stage that are known
---     Rests, rest            a step between two places where no round raises or polls: what the first tells holds at the second
+--     Rests, rest            a step between two places where no round raises or polls: what the first tells holds at
+--                            the second
 --     take-rests             a take: the type is row 6's or row 8's
 --     round-posts            setting the type posts the next phase and the round's type
 --     round-ends             the round over, phase and type are as the next place tells, and no round raises or polls
---     Seat, mark-seat, mark-part      a step of a mark: it stays or leads to the place after the mark, and the part in the handshakes is left alone
+--     Seat, mark-seat, mark-part      a step of a mark: it stays or leads to the place after the mark, and the part
+--                                     in the handshakes is left alone
 --     scan-rests             the collector's marks rest
 use mathlib.Core.Path.{_≡_, refl, sym, subst, _∙_}
 use mathlib.Core.Bool.{false, false≢true}
@@ -14,25 +17,25 @@ use Prim.Native.Nat.{ℕ}
 use Rattle.memory.specs.declared.Memory.{Memory}
 use Rattle.state.specs.declared.Handshake.{Handshake}
 use Rattle.state.specs.declared.Handshake.the-variants as hand
-use Rattle.state.specs.declared.Kind.{Kind}
+use Rattle.state.specs.declared.RoundType.{RoundType}
 use Rattle.state.specs.declared.Process.{Process}
 use Rattle.state.specs.Codes.{storeMarkOld, storeMarkY, storeWrite, rootsMark, rootsFinish, row6Take, row7Mark0, row7Read1, row7Mark1, row7Drop, row8Take, noStage, typeStage, raiseStage, pollStage}
-use Rattle.fits.specs.Fits.{Among, scanMarkPlaces}
-use Rattle.rows.specs.Rows.{At, unnoted, Next, Mark, Round, Advance}
+use Rattle.formed.specs.Fits.{Among, scanMarkPlaces}
+use Rattle.model.specs.Rows.{At, unnoted, Next, Mark, Round, Advance}
 use Rattle.claims.specs.Posted.{postedOf, Asked, Allows, askedOf, busyOf}
 
 -- ---- places
 abbrev pub toldOf : ℕ → ℕ → Handshake × Asked
 toldOf place stage = (postedOf place stage, askedOf place stage)
 
-abbrev pub Tells : Kind → Handshake → Handshake × Asked → Type 0
+abbrev pub Tells : RoundType → Handshake → Handshake × Asked → Type 0
 Tells k h w = (h ≡ w .0) × Allows (w .1) k
 
-abbrev pub Told : Kind → Handshake → Process → Type 0
+abbrev pub Told : RoundType → Handshake → Process → Type 0
 Told k h o = Tells k h (toldOf (o .place) (o .stage))
 
 pub record Rests (o t : Process) : Type 0 where
-  pub told : (k : Kind) (h : Handshake) → Told k h o → Told k h t
+  pub told : (k : RoundType) (h : Handshake) → Told k h o → Told k h t
   pub before : busyOf (o .place) (o .stage) ≡ false
   pub after : busyOf (t .place) (t .stage) ≡ false
 
@@ -40,7 +43,7 @@ pub at-told : {k j : ℕ} {o : Process} → At k j o → toldOf (o .place) (o .s
 at-told a = rw (a .place, a .stage) refl
 
 -- from a place and stage that are known
-leave : {k j : ℕ} {o : Process} (t : Process) → At k j o → ((i : Kind) (h : Handshake) → Tells i h (toldOf k j) → Told i h t) → busyOf k j ≡ false → busyOf (t .place) (t .stage) ≡ false → Rests o t
+leave : {k j : ℕ} {o : Process} (t : Process) → At k j o → ((i : RoundType) (h : Handshake) → Tells i h (toldOf k j) → Told i h t) → busyOf k j ≡ false → busyOf (t .place) (t .stage) ≡ false → Rests o t
 leave t a e f g = record { told = λ i h v. e i h (subst (Tells i h) (at-told a) v); before = rw (a .place, a .stage) f; after = g }
 
 pub rest : {k j : ℕ} {o : Process} (t : Process) → At k j o → toldOf (t .place) (t .stage) ≡ toldOf k j → busyOf k j ≡ false → busyOf (t .place) (t .stage) ≡ false → Rests o t
@@ -51,7 +54,7 @@ take-rests t (inl a) e = leave t a (λ i h v. subst (Tells i h) (sym e) (v .0, i
 take-rests t (inr a) e = leave t a (λ i h v. subst (Tells i h) (sym e) (v .0, inr (v .1))) refl
 
 -- ---- rounds
-pub round-posts : {k j l : ℕ} {t : Kind} {a : Handshake} → Round k t j l → Advance t (postedOf k typeStage) a → Tells t a (toldOf k raiseStage)
+pub round-posts : {k j l : ℕ} {t : RoundType} {a : Handshake} → Round k t j l → Advance t (postedOf k typeStage) a → Tells t a (toldOf k raiseStage)
 round-posts Round.row1 Advance.noop = (refl, refl)
 round-posts Round.row3 Advance.noop = (refl, refl)
 round-posts Round.row4 Advance.noop = (refl, refl)
@@ -59,7 +62,7 @@ round-posts Round.row5 Advance.noop = (refl, refl)
 round-posts Round.row6 Advance.roots = (refl, refl)
 round-posts Round.row8 Advance.work = (refl, refl)
 
-pub round-ends : {k j l : ℕ} {t : Kind} → Round k t j l → (toldOf j l ≡ toldOf k pollStage) × (busyOf j l ≡ false)
+pub round-ends : {k j l : ℕ} {t : RoundType} → Round k t j l → (toldOf j l ≡ toldOf k pollStage) × (busyOf j l ≡ false)
 round-ends Round.row1 = (refl, refl)
 round-ends Round.row3 = (refl, refl)
 round-ends Round.row4 = (refl, refl)

@@ -9,8 +9,8 @@ use Rattle.memory.specs.Memories.{maxProcesses}
 use Rattle.state.specs.declared.Process.{Process}
 use Rattle.state.specs.declared.State.{State}
 use Rattle.state.specs.States.{mutatorsOf, processOf, withProcess}
-use Rattle.fits.specs.Fits.{WellFormed}
-use Rattle.fits.proofs.Keeps.{process-same, mutators-most}
+use Rattle.formed.specs.Fits.{WellFormed}
+use Rattle.formed.proofs.Keeps.{process-same, mutators-most}
 
 pub replaced : (s : State) → WellFormed s → (p : ℕ) (q : Process) → p ≤ mutatorsOf s → processOf (withProcess s p q) p ≡ q
 replaced s w p q h = process-same s p q (w .sized) (omega (arith, mutators-most s w))

@@ -9,7 +9,7 @@ use Rattle.state.specs.declared.State.{State}
 use Rattle.state.specs.declared.Choice.{Choice}
 use Rattle.state.specs.declared.Answer.{Answer}
 use Rattle.state.specs.States.{takenOf}
-use Rattle.rows.specs.Rows.{Row}
+use Rattle.model.specs.Rows.{Row}
 use Rattle.engine.specs.Steps.{stepOf}
 use Rattle.engine.proofs.Theorems.{answered, exact}
 use Rattle.claims.specs.Runs.{runOf}

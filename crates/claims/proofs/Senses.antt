@@ -21,14 +21,14 @@ use Rattle.memory.specs.Views.{pendingFor}
 use Rattle.memory.proofs.Shapes.{pending-is}
 use Rattle.state.specs.declared.Handshake.{Handshake}
 use Rattle.state.specs.declared.Handshake.the-variants as hand
-use Rattle.state.specs.declared.Kind.{Kind}
+use Rattle.state.specs.declared.RoundType.{RoundType}
 use Rattle.state.specs.declared.Part.{Part}
 use Rattle.state.specs.declared.Process.{Process}
 use Rattle.state.specs.declared.State.{State}
 use Rattle.state.specs.Codes.{row1Round, row2Read, row2Write, row3Round, row4Write, row4Round, row5Phase, row5Alloc, row5Round, row6Round, row6Take, row7Read0, row7Mark0, row7Read1, row7Mark1, row7Drop, row8Round, row8Take, row9Write, row10Look, row10Free, row11Write}
 use Rattle.state.specs.States.{mutatorsOf, processOf}
-use Rattle.fits.specs.Fits.{amongOf, Among, plainPlaces, roundPlaces, scanPlaces, scanMarkPlaces, CollectorAt, WellFormed}
-use Rattle.fits.proofs.Places.{AllBelow, all-below, allOf, all-true}
+use Rattle.formed.specs.Fits.{amongOf, Among, plainPlaces, roundPlaces, scanPlaces, scanMarkPlaces, CollectorAt, WellFormed}
+use Rattle.formed.proofs.Places.{AllBelow, all-below, allOf, all-true}
 use Rattle.verdict.specs.Table.{InTable}
 use Rattle.claims.specs.Lock.{insideAt, Inside}
 use Rattle.claims.specs.Posted.{postedOf, busyOf}
@@ -153,7 +153,7 @@ calm-phase Wrote.sweep e = absurd (false≢true e)
 calm-phase Wrote.sweeps e = absurd (false≢true e)
 
 -- in step the system's is Idle too; not in step it is IdleInit, and the round is under way
-idle-line : {i : Bool} {k : Kind} {a : Handshake} → InTable i k a hand.Idle → (idleOf a ≡ true) ⊎ ((idleInitOf a ≡ true) × (i ≡ false))
+idle-line : {i : Bool} {k : RoundType} {a : Handshake} → InTable i k a hand.Idle → (idleOf a ≡ true) ⊎ ((idleInitOf a ≡ true) × (i ≡ false))
 idle-line InTable.idle = inl refl
 idle-line InTable.to-idle-init = inr (refl, refl)
 
@@ -185,7 +185,7 @@ idle-phase s w v k m a b e = calm-phase k (go (idle-line (rw e at (v .table m a 
     o : Process
     o = processOf s 0
 
-    go : (idleOf (s .hands .phase) ≡ true) ⊎ ((idleInitOf (s .hands .phase) ≡ true) × (processOf s m .part .in_step ≡ false)) →
+    go : (idleOf (s .system .phase) ≡ true) ⊎ ((idleInitOf (s .system .phase) ≡ true) × (processOf s m .part .in_step ≡ false)) →
         calmOf (stretchOf (processOf s 0 .place)) (momentOf (processOf s 0 .place) (processOf s 0 .stage)) ≡ true
     go (inl h) = implied (idleOf (postedOf (processOf s 0 .place) (processOf s 0 .stage))) (ruled idleRule idle-rule s w) (rw (v .posted) at h)
     go (inr h) =

@@ -21,19 +21,19 @@ use Rattle.claims.proofs.Noted.{holder-noted}
 use Rattle.claims.proofs.Inv.{run-inv}
 
 pub run-posted : RunPosted
-run-posted h f cs = run-inv h f cs .hands .posted
+run-posted h f cs = run-inv h f cs .handshakes .posted
 
 pub run-typed : RunTyped
-run-typed h f cs = run-inv h f cs .hands .typed
+run-typed h f cs = run-inv h f cs .handshakes .typed
 
 pub run-table : RunTable
-run-table h f cs = run-inv h f cs .hands .table
+run-table h f cs = run-inv h f cs .handshakes .table
 
 pub run-unbroken : RunUnbroken
 run-unbroken h f cs e =
     let v = run-inv h f cs in
     let b = formed-verdicts _ (v .formed) .table .0 e .2 in
-    b .1 .wrong (v .hands .table (b .0) (b .1 .above) (b .1 .mutator))
+    b .1 .wrong (v .handshakes .table (b .0) (b .1 .above) (b .1 .mutator))
 
 pub run-lock : RunLock
 run-lock h f cs = run-inv h f cs .lock

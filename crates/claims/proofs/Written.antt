@@ -23,33 +23,33 @@ use Rattle.buffers.specs.declared.Entry.{Entry}
 use Rattle.buffers.specs.Stores.{bitOf}
 use Rattle.memory.specs.declared.Memory.{Memory}
 use Rattle.memory.specs.declared.SeenBit.{SeenBit}
-use Rattle.memory.specs.declared.Standing.{Standing}
+use Rattle.memory.specs.declared.PhaseWord.{PhaseWord}
 use Rattle.memory.specs.Steps.{writeOf, commitOf, unlockOf}
-use Rattle.memory.specs.Memories.{taken, heldOf}
+use Rattle.memory.specs.Memories.{taken, standsOf}
 use Rattle.memory.specs.Looks.{lookSenseOf}
 use Rattle.memory.specs.Views.{pendingFor, viewOf}
 use Rattle.memory.proofs.Shapes.{Shaped, pending-is, view-empty}
 use Rattle.memory.proofs.Spots.{Alike, held-sense}
 use Rattle.memory.proofs.Sights.{look-sense-taken}
 use Rattle.memory.proofs.Effects.{Committed, write-taken, fence-taken, lock-taken, unlock-taken, commit-taken}
-use Rattle.sound.specs.WellFormed as sound
-use Rattle.sound.proofs.Shapes.{shaped}
-use Rattle.state.specs.declared.Kind.{Kind}
+use Rattle.memory_formed.specs.WellFormed as sound
+use Rattle.memory_formed.proofs.Shapes.{shaped}
+use Rattle.state.specs.declared.RoundType.{RoundType}
 use Rattle.state.specs.declared.Process.{Process}
 use Rattle.state.specs.declared.State.{State}
 use Rattle.state.specs.declared.Choice.{Choice}
 use Rattle.state.specs.declared.opening.Heap.{Heap}
 use Rattle.state.specs.Openings.{openMemory, openCollector, openingOf}
 use Rattle.state.specs.Codes.{row7Mark0, row7Mark1, lookStage, senseStage, phaseStage, lockStage, againStage, writeStage, unlockStage, fenceStage, typeStage, raiseStage, pollStage}
-use Rattle.state.specs.States.{processOf, withProcess, withMemory, withHands}
-use Rattle.fits.specs.Fits.{Among, scanMarkPlaces, HeapFits, WellFormed}
-use Rattle.rows.specs.Rows.{At, seesBit, Marks, unnoted, Next, Mark, Round, withList, allOff, withProcesses, flagged, Collector, Row}
-use Rattle.kept.specs.Leaves.{Beside}
-use Rattle.kept.proofs.Frames.{named}
+use Rattle.state.specs.States.{processOf, withProcess, withMemory, withSystem}
+use Rattle.formed.specs.Fits.{Among, scanMarkPlaces, HeapFits, WellFormed}
+use Rattle.model.specs.Rows.{At, seesBit, Marks, unnoted, Next, Mark, Round, withList, allOff, withProcesses, flagged, Collector, Row}
+use Rattle.stays_formed.specs.Leaves.{Beside}
+use Rattle.stays_formed.proofs.Frames.{named}
 use Rattle.claims.proofs.Processes.{arrived}
-use Rattle.fits.proofs.Gives.{collector-within, sweep-free-at}
-use Rattle.kept.proofs.Kept.{row-kept}
-use Rattle.kept.proofs.Leaves.{row-others}
+use Rattle.formed.proofs.Gives.{collector-within, sweep-free-at}
+use Rattle.stays_formed.proofs.Kept.{row-kept}
+use Rattle.stays_formed.proofs.Leaves.{row-others}
 use Rattle.claims.specs.Pending.{MarkOrField, MarksAndFields, MutatorStores}
 use Rattle.claims.specs.Written.{Stretch, Moment, stretchOf, momentOf, entryFor, Wrote, Written}
 use Rattle.claims.proofs.Moves.{Quiet, Outer, Goes, row-goes, frees-quiet}
@@ -129,7 +129,7 @@ after Wrote.sweep = Wrote.sweeps
 like : {n : Bool} {z : Stretch} {w : Moment} {l k : List Entry} {b c d e : Bool} {h i : Phase} → k ≡ l → c ≡ b → e ≡ d → i ≡ h → Wrote n z w l b d h → Wrote n z w k c e i
 like e f g i v = rw (e, f, g, i) v
 
-abbrev standing : Standing → Phase
+abbrev standing : PhaseWord → Phase
 standing i = i .phase
 
 commit-known : (q : Process) {m n : Memory} → sound.WellFormed m → commitOf m 0 ≡ taken n → Known q m → Known q n
@@ -158,7 +158,7 @@ quiet-keeps : {m n : Memory} → Quiet m n → Keeps m n
 quiet-keeps k = record { pending = k .pending 0; fm = k .fm; fa = k .fa; phase = ap standing (k .phase) }
 
 -- ---- a read of fM
-pub sees-sense : (m : Memory) (p : ℕ) {b : Bool} → viewOf m p spot.Sense ≡ heldOf m spot.Sense → lookSenseOf m p ≡ seesBit b → b ≡ m .fm
+pub sees-sense : (m : Memory) (p : ℕ) {b : Bool} → viewOf m p spot.Sense ≡ standsOf m spot.Sense → lookSenseOf m p ≡ seesBit b → b ≡ m .fm
 sees-sense m p g e =
     let k = look-sense-taken m p (ap (λ (i : SeenBit). i .no) e) in
     sym (ap (λ (i : SeenBit). i .bit) e) ∙ ap (λ (i : SeenBit). i .bit) k ∙ ap bitOf (g ∙ held-sense m)
@@ -167,7 +167,7 @@ sees-sense m p g e =
 at-known : {k j : ℕ} {q : Process} (m : Memory) → At k j q → Known q m → Wrote (q .sense) (stretchOf k) (momentOf k j) (pendingFor m 0) (m .fm) (m .fa) (m .phase .phase)
 at-known m a v = rw (a .place, a .stage) at v
 
-round-goes : {k j l : ℕ} {t : Kind} (i : ℕ) → Round k t j l → eqb i fenceStage ≡ false → momentOf k i ≡ Moment.goes
+round-goes : {k j l : ℕ} {t : RoundType} (i : ℕ) → Round k t j l → eqb i fenceStage ≡ false → momentOf k i ≡ Moment.goes
 round-goes i Round.row1 e = rw e refl
 round-goes i Round.row3 e = rw e refl
 round-goes i Round.row4 e = rw e refl
@@ -175,7 +175,7 @@ round-goes i Round.row5 e = rw e refl
 round-goes i Round.row6 e = rw e refl
 round-goes i Round.row8 e = rw e refl
 
-round-over : {k j l : ℕ} {t : Kind} {n : Bool} {e : List Entry} {b d : Bool} {h : Phase} → Round k t j l → Wrote n (stretchOf k) (momentOf k pollStage) e b d h → Wrote n (stretchOf j) (momentOf j l) e b d h
+round-over : {k j l : ℕ} {t : RoundType} {n : Bool} {e : List Entry} {b d : Bool} {h : Phase} → Round k t j l → Wrote n (stretchOf k) (momentOf k pollStage) e b d h → Wrote n (stretchOf j) (momentOf j l) e b d h
 round-over Round.row1 v = v
 round-over Round.row3 v = v
 round-over Round.row4 v = v
@@ -275,13 +275,13 @@ module _ (s : State) (c : Choice) (w : WellFormed s) where
   scanned (Marks.second i) e v = mark-known z (rw i scans-second) e v
 
   -- a round goes on, past its fence
-  round-on : {k j l : ℕ} {t : Kind} (a b : ℕ) → Round k t j l → At k a q → eqb a fenceStage ≡ false → eqb b fenceStage ≡ false → Known q m →
+  round-on : {k j l : ℕ} {t : RoundType} (a b : ℕ) → Round k t j l → At k a q → eqb a fenceStage ≡ false → eqb b fenceStage ≡ false → Known q m →
       Wrote (q .sense) (stretchOf k) (momentOf k b) (pendingFor m 0) (m .fm) (m .fa) (m .phase .phase)
   round-on a b r i e f v = rw (round-goes b r f) (rw (round-goes a r e) at (at-known m i v))
 
   collector-known : {t : State} → Collector s c 0 q t → Known q m → Turned t
   collector-known (Collector.fences r a b e) v = Turned.turned s _ (quiet-at (fence-taken 0 z e .empty) (at-known m a v))
-  collector-known (Collector.types r a b d) v = Turned.turned (withProcesses (withHands s _) (allOff (s .procs))) _ (round-on typeStage raiseStage r a refl refl v)
+  collector-known (Collector.types r a b d) v = Turned.turned (withProcesses (withSystem s _) (allOff (s .procs))) _ (round-on typeStage raiseStage r a refl refl v)
   collector-known (Collector.raises r a b i e) v = Turned.turned (withProcess s (c .x) (flagged (processOf s (c .x)))) _ v
   collector-known (Collector.raises-last r a b i e) v = Turned.turned (withProcess s (c .x) (flagged (processOf s (c .x)))) _ (round-on raiseStage pollStage r a refl refl v)
   collector-known (Collector.polls-up r a b i e) v = Turned.turned s _ v
@@ -294,10 +294,10 @@ module _ (s : State) (c : Choice) (w : WellFormed s) where
   collector-known (Collector.writes-init a b {m = n} e) v = Turned.turned (withMemory s n) _ (add (store.Phase phase.Init) z e (write-init (at-known m a v)))
   collector-known (Collector.writes-mark a b {m = n} e) v = Turned.turned (withMemory s n) _ (add (store.Phase phase.Mark) z e (write-marking (at-known m a v)))
   collector-known (Collector.writes-alloc a b {m = n} e) v = Turned.turned (withMemory s n) _ (add (store.AllocSense (q .sense)) z e (write-alloc (at-known m a v)))
-  collector-known (Collector.takes (inl a) b h) v = Turned.turned (withHands s (withList (s .hands) noCells)) _ (at-known m a v)
-  collector-known (Collector.takes (inr a) b h) v = Turned.turned (withHands s (withList (s .hands) noCells)) _ (at-known m a v)
-  collector-known (Collector.takes-none (inl a) b h) v = Turned.turned (withHands s (withList (s .hands) noCells)) _ (at-known m a v)
-  collector-known (Collector.takes-none (inr a) b h) v = Turned.turned (withHands s (withList (s .hands) noCells)) _ (at-known m a v)
+  collector-known (Collector.takes (inl a) b h) v = Turned.turned (withSystem s (withList (s .system) noCells)) _ (at-known m a v)
+  collector-known (Collector.takes (inr a) b h) v = Turned.turned (withSystem s (withList (s .system) noCells)) _ (at-known m a v)
+  collector-known (Collector.takes-none (inl a) b h) v = Turned.turned (withSystem s (withList (s .system) noCells)) _ (at-known m a v)
+  collector-known (Collector.takes-none (inr a) b h) v = Turned.turned (withSystem s (withList (s .system) noCells)) _ (at-known m a v)
   collector-known (Collector.reads-first a b i e h) v = Turned.turned s _ (at-known m a v)
   collector-known (Collector.reads-first-null a b i e) v = Turned.turned s _ (at-known m a v)
   collector-known (Collector.marks b i {m = n} {t = t} e) v = Turned.turned (withMemory s n) t (scanned i e v)

@@ -13,7 +13,7 @@ use Rattle.state.specs.declared.opening.Heap.{Heap}
 use Rattle.state.specs.Codes.{noopFinish, rootsFinish, workFinish, typeStage}
 use Rattle.state.specs.States.{mutatorsOf, processOf}
 use Rattle.state.specs.Openings.{openingOf}
-use Rattle.fits.specs.Fits.{amongOf, roundPlaces, HeapFits}
+use Rattle.formed.specs.Fits.{amongOf, roundPlaces, HeapFits}
 use Rattle.engine.specs.Steps.{stepOf}
 use Rattle.claims.specs.Runs.{runOf}
 
@@ -48,7 +48,8 @@ behindBy inStep = pick inStep 0 1
 abbrev pub roundsBehind : Process → ℕ
 roundsBehind q = behindBy (q .part .in_step)
 
--- demand 3: "at most one round behind": the types set are the answers that m has finished, and one more exactly while m is not in step
+-- demand 3: "at most one round behind": the types set are the answers that m has finished, and one more exactly while
+-- m is not in step
 abbrev pub RunBehind : Type 0
 RunBehind =
     (h : Heap) → HeapFits h → (cs : List Choice) (m : ℕ) → 0 < m → m ≤ mutatorsOf (openingOf h) →

@@ -9,7 +9,7 @@ use Rattle.state.specs.declared.Process.{Process}
 use Rattle.state.specs.declared.State.{State}
 use Rattle.state.specs.Codes.{raiseStage, pollStage}
 use Rattle.state.specs.States.{mutatorsOf, processOf}
-use Rattle.fits.specs.Fits.{Among, roundPlaces}
+use Rattle.formed.specs.Fits.{Among, roundPlaces}
 
 -- "raise each flag once, x naming the mutator": the flag of m is still to be raised
 pub record Due (o : Process) (m : ℕ) : Type 0 where
@@ -17,12 +17,14 @@ pub record Due (o : Process) (m : ℕ) : Type 0 where
   pub stage : o .stage ≡ raiseStage
   pub left : Member (o .left) m
 
--- the flag of m was raised in this round, and m is not known to have answered: "poll, x naming one still awaited, until none is"
+-- the flag of m was raised in this round, and m is not known to have answered: "poll, x naming one still awaited,
+-- until none is"
 pub data Awaited (o : Process) (m : ℕ) : Type 0 where
   raised : Among (o .place) roundPlaces → o .stage ≡ raiseStage → memberOf (o .left) m ≡ false → Awaited o m
   polled : Among (o .place) roundPlaces → o .stage ≡ pollStage → Member (o .left) m → Awaited o m
 
--- a mutator is out of step with its flag down exactly while the flag is still to be raised, and a flag is up only while it is awaited
+-- a mutator is out of step with its flag down exactly while the flag is still to be raised, and a flag is up only
+-- while it is awaited
 pub record Flagged (o : Process) (m : ℕ) (p : Part) : Type 0 where
   pub down : ((p .raised ≡ false) × (p .in_step ≡ false)) ↔ Due o m
   pub up : p .raised ≡ true → Awaited o m

@@ -8,10 +8,11 @@ use Rattle.state.specs.declared.Process.{Process}
 use Rattle.state.specs.declared.State.{State}
 use Rattle.state.specs.Codes.{againStage, writeStage, unlockStage}
 use Rattle.state.specs.States.{processOf}
-use Rattle.rows.specs.Offers.{markPlace}
+use Rattle.model.specs.Offers.{markPlace}
 use Rattle.claims.specs.Runs.{Always}
 
--- "A process is inside its compare and swap exactly while its place is the second look, the write or the unlock, whatever the lock says."
+-- "A process is inside its compare and swap exactly while its place is the second look, the write or the unlock,
+-- whatever the lock says."
 unfoldable pub insideAt : ℕ → ℕ → Bool
 insideAt place stage = markPlace place && (eqb stage againStage || eqb stage writeStage || eqb stage unlockStage)
 

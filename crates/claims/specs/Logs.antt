@@ -1,4 +1,5 @@
--- Demand 3 for the judge's own run: what holds of an admitted log's run after any number of its records, and at its end. Assumes nothing.
+-- Demand 3 for the judge's own run: what holds of an admitted log's run after any number of its records, and at its
+-- end. Assumes nothing.
 use mathlib.Core.Path.{_≡_}
 use mathlib.Core.List.{List}
 use Prim.Native.Nat.{ℕ, _+_, _≤_, _<_}

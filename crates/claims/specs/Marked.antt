@@ -1,5 +1,6 @@
--- The marked table: document 01's "Stalls we know". Each case is a log with its three numbers; case 12 has two logs. Where a line of document 01 gives no steps, none is
--- taken; where it gives no verdict, it is 0, and 4 on stop 12. Assumes nothing.
+-- The marked table: document 01's "Stalls we know". Each case is a log with its three numbers; case 12 has two logs.
+-- Where a line of document 01 gives no steps, none is taken; where it gives no verdict, it is 0, and 4 on stop 12.
+-- Assumes nothing.
 use mathlib.Core.Path.{_≡_}
 use mathlib.Core.List.{List, [], _∷_, _++_, dropLast}
 use mathlib.Mathlib.Data.List.Defs.{Forall}
@@ -22,7 +23,8 @@ base = 0x4D ∷ 0x47 ∷ 0x54 ∷ 0x01 ∷ 0x00 ∷ 0x02 ∷ 0x01 ∷ 0x01 ∷ 0
 abbrev pub a : List ℕ
 a = 0x01 ∷ 0x00 ∷ 0x00 ∷ 0x02 ∷ 0x00 ∷ 0x00 ∷ 0x04 ∷ 0x00 ∷ []
 
--- "process, kind, operation, x, f, y, and a 16-bit check equal to the sum of those six plus 1"; here the sum is always below 256
+-- "process, kind, operation, x, f, y, and a 16-bit check equal to the sum of those six plus 1"; here the sum is
+-- always below 256
 abbrev pub bytes : ℕ → ℕ → ℕ → ℕ → ℕ → ℕ → List ℕ
 bytes process kind op x f y = process ∷ kind ∷ op ∷ x ∷ f ∷ y ∷ (process + kind + op + x + f + y + 1) ∷ 0 ∷ []
 
@@ -55,7 +57,8 @@ times zero bs = []
 times (suc n) bs = bs ++ times n bs
 
 -- ---- the logs that are longer than a record
--- "Store 1 in field 0 of cell 1: four steps": the read, whose old value is null; of the mark of 1 the look and the read of fM, which stops it; the write
+-- "Store 1 in field 0 of cell 1: four steps": the read, whose old value is null; of the mark of 1 the look and the
+-- read of fM, which stops it; the write
 abbrev pub storeOne : List ℕ
 storeOne = store 1 1 0 1 ++ next 1 ++ next 1 ++ next 1
 
@@ -112,7 +115,7 @@ table =
 
 -- "both phases Idle": the system's handshake phase and mutator 1's
 pub record BothIdle (s : State) : Type 0 where
-  pub system : s .hands .phase ≡ hand.Idle
+  pub system : s .system .phase ≡ hand.Idle
   pub mutator : processOf s 1 .part .phase ≡ hand.Idle
 
 -- every case of the table gives its three numbers, and case 11 ends with both phases Idle

@@ -8,7 +8,7 @@ use Rattle.state.specs.declared.Process.{Process}
 use Rattle.state.specs.declared.State.{State}
 use Rattle.state.specs.Codes.{phaseStage, lockStage}
 use Rattle.state.specs.States.{mutatorsOf, processOf}
-use Rattle.rows.specs.Offers.{markPlace}
+use Rattle.model.specs.Offers.{markPlace}
 use Rattle.claims.specs.Runs.{Always}
 
 -- of a mark, the stage j or a later one
@@ -18,7 +18,8 @@ reachedAt j place stage = markPlace place && leb j stage
 abbrev pub Reached : ℕ → Process → Type 0
 Reached j q = reachedAt j (q .place) (q .stage) ≡ true
 
--- "read fM, stop if equal; read phase, stop if Idle; lock": past its read of fM a mutator that has left Idle has noted memory's fM, b; and past the read of the phase it has left Idle
+-- "read fM, stop if equal; read phase, stop if Idle; lock": past its read of fM a mutator that has left Idle has
+-- noted memory's fM, b; and past the read of the phase it has left Idle
 pub record NotedBy (b : Bool) (q : Process) : Type 0 where
   pub sense : Reached phaseStage q → (q .part .phase ≡ hand.Idle → ⊥) → q .sense ≡ b
   pub left : Reached lockStage q → q .part .phase ≡ hand.Idle → ⊥

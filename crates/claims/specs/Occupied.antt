@@ -1,21 +1,23 @@
--- "each cell is occupied exactly as its opening, allocations and frees say": the events of a cell are told from the choices taken and the places they were taken at, not from the set of occupied cells. Assumes nothing.
+-- "each cell is occupied exactly as its opening, allocations and frees say": the events of a cell are told from the
+-- choices taken and the places they were taken at, not from the set of occupied cells. Assumes nothing.
 use mathlib.Core.Path.{_≡_}
 use mathlib.Core.Bool.{Bool, true, false, _&&_}
 use mathlib.Core.List.{List, [], _∷_}
 use Prim.Native.Nat.{ℕ}
 use lib.Dec.{eqb}
 use Rattle.base.specs.Pick.{pick}
+use Rattle.base.specs.Refusals.{asTaken}
 use Rattle.cells.specs.Sets.{memberOf}
 use Rattle.buffers.specs.Fits.{IsCell}
-use Rattle.memory.specs.Memories.{usedOf, asTaken}
+use Rattle.memory.specs.Memories.{usedOf}
 use Rattle.state.specs.declared.Process.{Process}
 use Rattle.state.specs.declared.State.{State}
 use Rattle.state.specs.declared.Choice.{Choice}
 use Rattle.state.specs.declared.opening.Heap.{Heap}
 use Rattle.state.specs.Codes.{top, row10Free}
 use Rattle.state.specs.Openings.{openingOf}
-use Rattle.fits.specs.Fits.{HeapFits}
-use Rattle.rows.specs.Reasons.{mover}
+use Rattle.formed.specs.Fits.{HeapFits}
+use Rattle.model.specs.Reasons.{mover}
 use Rattle.engine.specs.Steps.{stepOf}
 use Rattle.claims.specs.Runs.{runOf}
 
@@ -25,7 +27,8 @@ pub data Event : Type 0 where
   allocated : Event
   freed : Event
 
--- an own step of q (only a mutator stands at top, only the collector at row 10's free): "0 allocate free cell x"; "occupied and unequal to noted fM: free it, as a further step"
+-- an own step of q (only a mutator stands at top, only the collector at row 10's free): "0 allocate free cell x";
+-- "occupied and unequal to noted fM: free it, as a further step"
 unfoldable pub ownEvent : Choice → Process → ℕ → Event
 ownEvent c q x =
     pick (eqb (q .place) top && eqb (c .op) 0 && eqb (c .x) x) allocated

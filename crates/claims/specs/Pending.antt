@@ -1,4 +1,5 @@
--- "a mark waits in a buffer only under that lock, one at most"; a mutator writes marks and fields only. Assumes nothing.
+-- "a mark waits in a buffer only under that lock, one at most"; a mutator writes marks and fields only. Assumes
+-- nothing.
 use mathlib.Core.Path.{_≡_}
 use mathlib.Core.Bool.{Bool, true, false, _&&_}
 use mathlib.Core.List.{List, [], _∷_, List·Memᴰ}
@@ -14,7 +15,7 @@ use Rattle.state.specs.declared.Process.{Process}
 use Rattle.state.specs.declared.State.{State}
 use Rattle.state.specs.Codes.{unlockStage}
 use Rattle.state.specs.States.{processOf}
-use Rattle.rows.specs.Offers.{markPlace}
+use Rattle.model.specs.Offers.{markPlace}
 use Rattle.claims.specs.Runs.{Always}
 
 -- the pending stores of process p, "oldest store first"

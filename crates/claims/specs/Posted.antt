@@ -8,12 +8,12 @@ use lib.Dec.{eqb, leb}
 use Rattle.base.specs.Pick.{pick}
 use Rattle.state.specs.declared.Handshake.{Handshake}
 use Rattle.state.specs.declared.Handshake.the-variants as hand
-use Rattle.state.specs.declared.Kind.{Kind}
-use Rattle.state.specs.declared.Kind.the-variants as kind
+use Rattle.state.specs.declared.RoundType.{RoundType}
+use Rattle.state.specs.declared.RoundType.the-variants as round
 use Rattle.state.specs.declared.State.{State}
 use Rattle.state.specs.Codes.{row1Round, row3Round, row4Round, row5Round, row6Round, row6Take, row8Take, raiseStage}
 use Rattle.state.specs.States.{nextOf, processOf}
-use Rattle.fits.specs.Fits.{amongOf, roundPlaces}
+use Rattle.formed.specs.Fits.{amongOf, roundPlaces}
 use Rattle.claims.specs.Runs.{Always}
 
 -- ---- the phase
@@ -37,7 +37,7 @@ postedOf place stage = pick (amongOf place advancingRounds) (pick (leb raiseStag
 
 -- the system's handshake phase is the one that the collector's place and stage tell
 abbrev pub Posted : State → Type 0
-Posted s = s .hands .phase ≡ postedOf (processOf s 0 .place) (processOf s 0 .stage)
+Posted s = s .system .phase ≡ postedOf (processOf s 0 .place) (processOf s 0 .stage)
 
 -- after any choices
 abbrev pub RunPosted : Type 0
@@ -46,25 +46,26 @@ RunPosted = Always Posted
 -- ---- the type
 -- what is known of the type: it is a certain one, or it is roots or work
 pub data Asked : Type 0 where
-  only : Kind → Asked
+  only : RoundType → Asked
   rootsOrWork : Asked
 
-abbrev pub Allows : Asked → Kind → Type 0
+abbrev pub Allows : Asked → RoundType → Type 0
 Allows (Asked.only t) k = k ≡ t
-Allows Asked.rootsOrWork k = (k ≡ kind.Roots) ⊎ (k ≡ kind.Work)
+Allows Asked.rootsOrWork k = (k ≡ round.Roots) ⊎ (k ≡ round.Work)
 
--- when the collector comes to a place: at row 1 the opening's ("type roots") or row 6's or 8's; then no-op, up to row 6's round; at a take its round's; elsewhere row 6's or 8's
+-- when the collector comes to a place: at row 1 the opening's ("type roots") or row 6's or 8's; then no-op, up to row
+-- 6's round; at a take its round's; elsewhere row 6's or 8's
 abbrev pub comingAsked : ℕ → Asked
 comingAsked place =
     pick (leb place row1Round) Asked.rootsOrWork
-    (pick (leb place row6Round) (Asked.only kind.Noop)
-    (pick (leb place row6Take) (Asked.only kind.Roots)
-    (pick (eqb place row8Take) (Asked.only kind.Work)
+    (pick (leb place row6Round) (Asked.only round.Noop)
+    (pick (leb place row6Take) (Asked.only round.Roots)
+    (pick (eqb place row8Take) (Asked.only round.Work)
     Asked.rootsOrWork)))
 
 -- rows 1, 3, 4 and 5 "no-op round", row 6 "roots round", row 8 "work round"
-abbrev pub roundType : ℕ → Kind
-roundType place = pick (leb place row5Round) kind.Noop (pick (leb place row6Round) kind.Roots kind.Work)
+abbrev pub roundType : ℕ → RoundType
+roundType place = pick (leb place row5Round) round.Noop (pick (leb place row6Round) round.Roots round.Work)
 
 -- a round raises or polls
 abbrev pub busyOf : ℕ → ℕ → Bool
@@ -76,7 +77,7 @@ askedOf place stage = pick (busyOf place stage) (Asked.only (roundType place)) (
 
 -- the type is one that the collector's place and stage tell
 abbrev pub Typed : State → Type 0
-Typed s = Allows (askedOf (processOf s 0 .place) (processOf s 0 .stage)) (s .hands .kind)
+Typed s = Allows (askedOf (processOf s 0 .place) (processOf s 0 .stage)) (s .system .kind)
 
 -- after any choices
 abbrev pub RunTyped : Type 0

@@ -4,7 +4,7 @@ use Rattle.state.specs.declared.State.{State}
 use Rattle.state.specs.declared.Choice.{Choice}
 use Rattle.state.specs.declared.opening.Heap.{Heap}
 use Rattle.state.specs.Openings.{openingOf}
-use Rattle.fits.specs.Fits.{HeapFits}
+use Rattle.formed.specs.Fits.{HeapFits}
 pub use Rattle.engine.specs.Runs.{runOf}
 
 -- P holds after any choices from the opening of any heap that keeps the header's rules

@@ -10,13 +10,14 @@ use Rattle.claims.specs.Runs.{Always}
 
 -- each mutator's line is in the handshake table, and "A raised flag implies not in step."
 abbrev pub Table : State → Type 0
-Table s = (m : ℕ) → 0 < m → m ≤ mutatorsOf s → Right (s .hands) (processOf s m .part)
+Table s = (m : ℕ) → 0 < m → m ≤ mutatorsOf s → Right (s .system) (processOf s m .part)
 
 -- the judge's finding is not "3: the handshake table is broken"
 abbrev pub Unbroken : State → Type 0
 Unbroken s = findingOf s .verdict ≡ isTable → ⊥
 
--- demand 3, after any choices: "each mutator stands in the handshake table with the collector, at most one round behind"
+-- demand 3, after any choices: "each mutator stands in the handshake table with the collector, at most one round
+-- behind"
 abbrev pub RunTable : Type 0
 RunTable = Always Table
 

@@ -1,4 +1,5 @@
--- What the collector has written and memory has not got yet, and what memory holds, told by where the collector stands. Assumes nothing.
+-- What the collector has written and memory has not got yet, and what memory holds, told by where the collector
+-- stands. Assumes nothing.
 use mathlib.Core.Bool.{Bool, not}
 use mathlib.Core.List.{List, [], _∷_}
 use Prim.Native.Nat.{ℕ}
@@ -13,8 +14,8 @@ use Rattle.buffers.specs.declared.Entry.{Entry}
 use Rattle.state.specs.declared.State.{State}
 use Rattle.state.specs.Codes.{row2Read, row2Write, row4Write, row5Phase, row5Alloc, row5Round, row9Write, fenceStage, unlockStage}
 use Rattle.state.specs.States.{processOf}
-use Rattle.fits.specs.Fits.{amongOf, roundPlaces}
-use Rattle.rows.specs.Offers.{markPlace}
+use Rattle.formed.specs.Fits.{amongOf, roundPlaces}
+use Rattle.model.specs.Offers.{markPlace}
 use Rattle.claims.specs.Pending.{waitingOf}
 
 -- the stretches of the collector's table between its writes
@@ -62,7 +63,8 @@ momentOf place stage =
 abbrev pub entryFor : Store → Entry
 entryFor v = record { store = v }
 
--- the stretch and the moment; the collector's pending stores, "oldest store first"; memory's fM, fA and phase. n is the collector's noted fM.
+-- the stretch and the moment; the collector's pending stores, "oldest store first"; memory's fM, fA and phase. n is
+-- the collector's noted fM.
 pub data Wrote (n : Bool) : Stretch → Moment → List Entry → Bool → Bool → Phase → Type 0 where
   -- rows 9 and 11: "write phase Sweep", "write phase Idle, row 1"
   both-idle : Wrote n Stretch.rests Moment.fences (entryFor (store.Phase phase.Sweep) ∷ entryFor (store.Phase phase.Idle) ∷ []) n n phase.Mark

@@ -1,4 +1,5 @@
--- "Collector": rows 1 to 11 of its table, but for row 7's marks. What each place offers, what its step asks of memory, and how it goes on with what was seen. Assumes nothing.
+-- "Collector": rows 1 to 11 of its table, but for row 7's marks. What each place offers, what its step asks of
+-- memory, and how it goes on with what was seen. Assumes nothing.
 use mathlib.Core.Bool.{Bool, true, false, not}
 use Prim.Native.Nat.{ℕ, _+_}
 use lib.Dec.{eqb, ltb}
@@ -12,7 +13,7 @@ use Rattle.memory.specs.declared.asks.Ask.{Ask}
 use Rattle.memory.specs.declared.asks.Ask.the-variants as ask
 use Rattle.memory.specs.declared.asks.Change.the-variants as change
 use Rattle.memory.specs.declared.asks.Sight.{Sight}
-use Rattle.state.specs.declared.Kind.the-variants as kind
+use Rattle.state.specs.declared.RoundType.the-variants as round
 use Rattle.state.specs.declared.Process.{Process}
 use Rattle.state.specs.declared.Choice.{Choice}
 use Rattle.state.specs.declared.acts.Act.the-variants as act
@@ -36,7 +37,8 @@ isRound k =
     (pick (eqb k row8Round) true
     false)))))
 
--- ---- what is offered: "x from its list, named at the first read"; "for each cell number, x naming one left"; else no argument. A place that is none of the collector's offers nothing
+-- ---- what is offered: "x from its list, named at the first read"; "for each cell number, x naming one left"; else
+-- no argument. A place that is none of the collector's offers nothing
 unfoldable pub rowOffers : Choice → Process → Bool
 rowOffers c q =
     pick (eqb (q .place) row7Read0) (isNaming c (q .work))
@@ -118,12 +120,12 @@ swept x u b q =
 -- the round of a place: its type, and the place and stage that follow it
 unfoldable pub rowRound : ℕ → Round
 rowRound k =
-    pick (eqb k row1Round) (record { kind = kind.Noop; place = row2Read; stage = noStage })
-    (pick (eqb k row3Round) (record { kind = kind.Noop; place = row4Write; stage = noStage })
-    (pick (eqb k row4Round) (record { kind = kind.Noop; place = row5Phase; stage = noStage })
-    (pick (eqb k row5Round) (record { kind = kind.Noop; place = row6Round; stage = fenceStage })
-    (pick (eqb k row6Round) (record { kind = kind.Roots; place = row6Take; stage = noStage })
-    (record { kind = kind.Work; place = row8Take; stage = noStage })))))
+    pick (eqb k row1Round) (record { kind = round.Noop; place = row2Read; stage = noStage })
+    (pick (eqb k row3Round) (record { kind = round.Noop; place = row4Write; stage = noStage })
+    (pick (eqb k row4Round) (record { kind = round.Noop; place = row5Phase; stage = noStage })
+    (pick (eqb k row5Round) (record { kind = round.Noop; place = row6Round; stage = fenceStage })
+    (pick (eqb k row6Round) (record { kind = round.Roots; place = row6Take; stage = noStage })
+    (record { kind = round.Work; place = row8Take; stage = noStage })))))
 
 -- among n cells
 unfoldable pub rowGo : Choice → ℕ → Sight → Process → Process
@@ -145,8 +147,8 @@ rowGo c n v q =
 -- rows 6 and 8: "take the system's list (one step, emptying it; ..)"
 unfoldable pub listGo : Choice → Setting → Sight → Process → Going
 listGo c z v q =
-    pick (eqb (q .place) row6Take) (goingWith (act.Lists 0) (taking (z .hands .work) q))
-    (pick (eqb (q .place) row8Take) (goingWith (act.Lists 0) (taking (z .hands .work) q))
+    pick (eqb (q .place) row6Take) (goingWith (act.Lists 0) (taking (z .system .work) q))
+    (pick (eqb (q .place) row8Take) (goingWith (act.Lists 0) (taking (z .system .work) q))
     (goingOn (rowGo c (z .cells) v q)))
 
 unfoldable pub collectorGo : Choice → Setting → Sight → Process → Going

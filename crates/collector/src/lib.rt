@@ -1,5 +1,6 @@
-// "Collector": rows 1 to 11 of its table, but for row 7's marks (crate `marking`); the rounds are of crate `rounds`. What each place offers, what its step asks of memory, and
-// how it goes on with what was seen. c is the choice, q the collector.
+// "Collector": rows 1 to 11 of its table, but for row 7's marks (crate `marking`); the rounds are of crate `rounds`.
+// What each place offers, what its step asks of memory, and how it goes on with what was seen. c is the choice, q the
+// collector.
 use buffers::Phase;
 use buffers::Spot;
 use buffers::Store;
@@ -8,11 +9,15 @@ use memory::asks::Change;
 use memory::asks::Sight;
 use rounds::Round;
 use state::Choice;
-use state::Kind;
 use state::Process;
+use state::RoundType;
 use state::acts::Act;
 use state::acts::Going;
 use state::acts::Setting;
+use state::codes::MarkStage;
+use state::codes::Place;
+use state::codes::RoundStage;
+use state::codes::Stage;
 ghost use mathlib.Core.Path.{_≡_};
 ghost use Rattle.collector.specs.Collectors.{isRound, rowOffers, collectorOffers, rowAsk, collectorAsk, to, sensed, flipped, taking, scanning, dropping, sweepFrom, sweeping, swept, rowRound, rowGo, listGo, collectorGo};
 
@@ -21,27 +26,28 @@ fn is_round(place: u8) -> bool
     ensures { λ r. ⌜ r ≡ isRound place ⌝ }
 {
     match place {
-        Process::ROW1_ROUND => true,
-        Process::ROW3_ROUND => true,
-        Process::ROW4_ROUND => true,
-        Process::ROW5_ROUND => true,
-        Process::ROW6_ROUND => true,
-        Process::ROW8_ROUND => true,
+        Place::ROW1_ROUND => true,
+        Place::ROW3_ROUND => true,
+        Place::ROW4_ROUND => true,
+        Place::ROW5_ROUND => true,
+        Place::ROW6_ROUND => true,
+        Place::ROW8_ROUND => true,
         _ => false,
     }
 }
 
-// "x from its list, named at the first read"; "for each cell number, x naming one left"; else the place uses no argument. One that is none of the collector's offers nothing.
+// "x from its list, named at the first read"; "for each cell number, x naming one left"; else the place uses no
+// argument. One that is none of the collector's offers nothing.
 fn row_offers(c: Choice, q: Process) -> bool
     ensures { λ r. ⌜ r ≡ rowOffers c q ⌝ }
 {
     let place = q.place;
     match place {
-        Process::ROW7_READ0 => c.names(q.work),
-        Process::ROW10_LOOK => c.names(q.left),
-        0..=Process::WORK_FINISH => false,
-        Process::ROW1_ROUND..=Process::ROW11_WRITE => c.blank(),
-        33..=255 => false,
+        Place::ROW7_READ0 => c.names(q.work),
+        Place::ROW10_LOOK => c.names(q.left),
+        0..=Place::WORK_FINISH => false,
+        Place::ROW1_ROUND..=Place::ROW11_WRITE => c.blank(),
+        Place::BEYOND..=255 => false,
     }
 }
 
@@ -61,23 +67,23 @@ fn row_ask(c: Choice, q: Process) -> Ask
 {
     let place = q.place;
     match place {
-        Process::ROW2_READ => Ask::Look(Spot::Sense),
-        Process::ROW2_WRITE => Ask::Make(Change::Write(Store::Sense(!q.sense))),
-        Process::ROW4_WRITE => Ask::Make(Change::Write(Store::Phase(Phase::Init))),
-        Process::ROW5_PHASE => Ask::Make(Change::Write(Store::Phase(Phase::Mark))),
-        Process::ROW5_ALLOC => Ask::Make(Change::Write(Store::AllocSense(q.sense))),
-        Process::ROW7_READ0 => Ask::Look(Spot::Field {
+        Place::ROW2_READ => Ask::Look(Spot::Sense),
+        Place::ROW2_WRITE => Ask::Make(Change::Write(Store::Sense(!q.sense))),
+        Place::ROW4_WRITE => Ask::Make(Change::Write(Store::Phase(Phase::Init))),
+        Place::ROW5_PHASE => Ask::Make(Change::Write(Store::Phase(Phase::Mark))),
+        Place::ROW5_ALLOC => Ask::Make(Change::Write(Store::AllocSense(q.sense))),
+        Place::ROW7_READ0 => Ask::Look(Spot::Field {
             cell: c.x,
             field: 0,
         }),
-        Process::ROW7_READ1 => Ask::Look(Spot::Field {
+        Place::ROW7_READ1 => Ask::Look(Spot::Field {
             cell: q.x,
             field: 1,
         }),
-        Process::ROW9_WRITE => Ask::Make(Change::Write(Store::Phase(Phase::Sweep))),
-        Process::ROW10_LOOK => Ask::Sweep(c.x),
-        Process::ROW10_FREE => Ask::Make(Change::Free(q.x)),
-        Process::ROW11_WRITE => Ask::Make(Change::Write(Store::Phase(Phase::Idle))),
+        Place::ROW9_WRITE => Ask::Make(Change::Write(Store::Phase(Phase::Sweep))),
+        Place::ROW10_LOOK => Ask::Sweep(c.x),
+        Place::ROW10_FREE => Ask::Make(Change::Free(q.x)),
+        Place::ROW11_WRITE => Ask::Make(Change::Write(Store::Phase(Phase::Idle))),
         _ => Ask::Nothing,
     }
 }
@@ -103,7 +109,7 @@ fn to(place: u8, stage: u8, mut q: Process) -> Process
 fn sensed(bit: bool, mut q: Process) -> Process
     ensures { λ r. ⌜ r ≡ sensed bit q ⌝ }
 {
-    q.place = Process::ROW2_WRITE;
+    q.place = Place::ROW2_WRITE;
     q.sense = bit;
     q
 }
@@ -112,8 +118,8 @@ fn sensed(bit: bool, mut q: Process) -> Process
 fn flipped(mut q: Process) -> Process
     ensures { λ r. ⌜ r ≡ flipped q ⌝ }
 {
-    q.place = Process::ROW3_ROUND;
-    q.stage = Process::FENCE;
+    q.place = Place::ROW3_ROUND;
+    q.stage = RoundStage::FENCE;
     q.sense = !q.sense;
     q
 }
@@ -124,10 +130,10 @@ fn taking(work: u64, mut q: Process) -> Process
 {
     q.work = work;
     if work == 0 {
-        q.place = Process::ROW9_WRITE;
+        q.place = Place::ROW9_WRITE;
         return q;
     }
-    q.place = Process::ROW7_READ0;
+    q.place = Place::ROW7_READ0;
     q
 }
 
@@ -141,7 +147,7 @@ fn scanning(x: u8, value: u8, place: u8, past: u8, mut q: Process) -> Process
         return q;
     }
     q.place = place;
-    q.stage = Process::LOOK;
+    q.stage = MarkStage::LOOK;
     q.cell = value;
     q
 }
@@ -153,11 +159,11 @@ fn dropping(work: u64, mut q: Process) -> Process
     q.x = 0;
     q.work = work;
     if work == 0 {
-        q.place = Process::ROW8_ROUND;
-        q.stage = Process::FENCE;
+        q.place = Place::ROW8_ROUND;
+        q.stage = RoundStage::FENCE;
         return q;
     }
-    q.place = Process::ROW7_READ0;
+    q.place = Place::ROW7_READ0;
     q
 }
 
@@ -165,7 +171,7 @@ fn dropping(work: u64, mut q: Process) -> Process
 fn sweep_from(n: u8, mut q: Process) -> Process
     ensures { λ r. ⌜ r ≡ sweepFrom n q ⌝ }
 {
-    q.place = Process::ROW10_LOOK;
+    q.place = Place::ROW10_LOOK;
     q.left = cells::full(n);
     q
 }
@@ -176,10 +182,10 @@ fn sweeping(mut q: Process) -> Process
 {
     q.x = 0;
     if q.left == 0 {
-        q.place = Process::ROW11_WRITE;
+        q.place = Place::ROW11_WRITE;
         return q;
     }
-    q.place = Process::ROW10_LOOK;
+    q.place = Place::ROW10_LOOK;
     q
 }
 
@@ -192,7 +198,7 @@ fn swept(x: u8, used: bool, bit: bool, mut q: Process) -> Process
         if base::same(q.sense, bit) {
             return sweeping(q);
         }
-        q.place = Process::ROW10_FREE;
+        q.place = Place::ROW10_FREE;
         q.x = x;
         return q;
     }
@@ -204,70 +210,59 @@ fn row_round(place: u8) -> Round
     ensures { λ r. ⌜ r ≡ rowRound place ⌝ }
 {
     match place {
-        Process::ROW1_ROUND => Round {
-            kind: Kind::Noop,
-            place: Process::ROW2_READ,
-            stage: Process::NO_STAGE,
+        Place::ROW1_ROUND => Round {
+            kind: RoundType::Noop,
+            place: Place::ROW2_READ,
+            stage: Stage::NONE,
         },
-        Process::ROW3_ROUND => Round {
-            kind: Kind::Noop,
-            place: Process::ROW4_WRITE,
-            stage: Process::NO_STAGE,
+        Place::ROW3_ROUND => Round {
+            kind: RoundType::Noop,
+            place: Place::ROW4_WRITE,
+            stage: Stage::NONE,
         },
-        Process::ROW4_ROUND => Round {
-            kind: Kind::Noop,
-            place: Process::ROW5_PHASE,
-            stage: Process::NO_STAGE,
+        Place::ROW4_ROUND => Round {
+            kind: RoundType::Noop,
+            place: Place::ROW5_PHASE,
+            stage: Stage::NONE,
         },
-        Process::ROW5_ROUND => Round {
-            kind: Kind::Noop,
-            place: Process::ROW6_ROUND,
-            stage: Process::FENCE,
+        Place::ROW5_ROUND => Round {
+            kind: RoundType::Noop,
+            place: Place::ROW6_ROUND,
+            stage: RoundStage::FENCE,
         },
-        Process::ROW6_ROUND => Round {
-            kind: Kind::Roots,
-            place: Process::ROW6_TAKE,
-            stage: Process::NO_STAGE,
+        Place::ROW6_ROUND => Round {
+            kind: RoundType::Roots,
+            place: Place::ROW6_TAKE,
+            stage: Stage::NONE,
         },
         _ => Round {
-            kind: Kind::Work,
-            place: Process::ROW8_TAKE,
-            stage: Process::NO_STAGE,
+            kind: RoundType::Work,
+            place: Place::ROW8_TAKE,
+            stage: Stage::NONE,
         },
     }
 }
 
-// How the rows go on, but for their rounds and takes. At row 7's marks the crate `marking` tells it; elsewhere nothing is offered.
+// How the rows go on, but for their rounds and takes. At row 7's marks the crate `marking` tells it; elsewhere
+// nothing is offered.
 fn row_go(c: Choice, n: u8, seen: Sight, q: Process) -> Process
     ensures { λ r. ⌜ r ≡ rowGo c n seen q ⌝ }
 {
     let v = seen.store;
     let place = q.place;
     match place {
-        Process::ROW2_READ => sensed(v.bit_in(), q),
-        Process::ROW2_WRITE => flipped(q),
-        Process::ROW4_WRITE => to(Process::ROW4_ROUND, Process::FENCE, q),
-        Process::ROW5_PHASE => to(Process::ROW5_ALLOC, Process::NO_STAGE, q),
-        Process::ROW5_ALLOC => to(Process::ROW5_ROUND, Process::FENCE, q),
-        Process::ROW7_READ0 => scanning(
-            c.x,
-            v.value_in(),
-            Process::ROW7_MARK0,
-            Process::ROW7_READ1,
-            q,
-        ),
-        Process::ROW7_READ1 => scanning(
-            q.x,
-            v.value_in(),
-            Process::ROW7_MARK1,
-            Process::ROW7_DROP,
-            q,
-        ),
-        Process::ROW7_DROP => dropping(cells::remove(q.work, q.x), q),
-        Process::ROW9_WRITE => sweep_from(n, q),
-        Process::ROW10_LOOK => swept(c.x, seen.used, v.bit_in(), q),
-        Process::ROW10_FREE => sweeping(q),
-        Process::ROW11_WRITE => to(Process::ROW1_ROUND, Process::FENCE, q),
+        Place::ROW2_READ => sensed(v.bit_in(), q),
+        Place::ROW2_WRITE => flipped(q),
+        Place::ROW4_WRITE => to(Place::ROW4_ROUND, RoundStage::FENCE, q),
+        Place::ROW5_PHASE => to(Place::ROW5_ALLOC, Stage::NONE, q),
+        Place::ROW5_ALLOC => to(Place::ROW5_ROUND, RoundStage::FENCE, q),
+        Place::ROW7_READ0 => scanning(c.x, v.value_in(), Place::ROW7_MARK0, Place::ROW7_READ1, q),
+        Place::ROW7_READ1 => scanning(q.x, v.value_in(), Place::ROW7_MARK1, Place::ROW7_DROP, q),
+        Place::ROW7_DROP => dropping(cells::remove(q.work, q.x), q),
+        Place::ROW9_WRITE => sweep_from(n, q),
+        Place::ROW10_LOOK => swept(c.x, seen.used, v.bit_in(), q),
+        Place::ROW10_FREE => sweeping(q),
+        Place::ROW11_WRITE => to(Place::ROW1_ROUND, RoundStage::FENCE, q),
         _ => q,
     }
 }
@@ -276,11 +271,11 @@ fn row_go(c: Choice, n: u8, seen: Sight, q: Process) -> Process
 fn list_go(c: Choice, set: Setting, seen: Sight, q: Process) -> Going
     ensures { λ r. ⌜ r ≡ listGo c set seen q ⌝ }
 {
-    let h = set.hands;
+    let h = set.system;
     let place = q.place;
     match place {
-        Process::ROW6_TAKE => Going::with(Act::Lists(0), taking(h.work, q)),
-        Process::ROW8_TAKE => Going::with(Act::Lists(0), taking(h.work, q)),
+        Place::ROW6_TAKE => Going::with(Act::Lists(0), taking(h.work, q)),
+        Place::ROW8_TAKE => Going::with(Act::Lists(0), taking(h.work, q)),
         _ => Going::on(row_go(c, set.cells, seen, q)),
     }
 }

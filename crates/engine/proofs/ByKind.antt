@@ -10,23 +10,23 @@ use native.Mathlib.Omega.{arith}
 use lib.Dec.{eqb}
 use borrow.Author.Tests.{le-leb, lt-leb, eq-eqb, ne-eqb}
 use Rattle.base.specs.Pick.{pick}
-use Rattle.memory.specs.Memories.{asTaken, maxProcesses}
+use Rattle.base.specs.Refusals.{asTaken, byNoProcess, byNoKind, byNotOffered}
+use Rattle.memory.specs.Memories.{maxProcesses}
 use Rattle.state.specs.declared.State.{State}
 use Rattle.state.specs.declared.Choice.{Choice}
 use Rattle.state.specs.declared.Answer.{Answer}
-use Rattle.state.specs.Codes.{notThere, noSuchKind, notOffered}
 use Rattle.state.specs.States.{refusedOf}
 use Rattle.state.specs.Choices.{isBlank}
-use Rattle.rows.proofs.Road.{ownOf}
+use Rattle.model.proofs.Road.{ownOf}
 use Rattle.engine.specs.Steps.{commitRefuses, refusesOf, askOf, goOf, innerOf}
-use Rattle.rows.proofs.Commits.{commits, committedOf}
+use Rattle.model.proofs.Commits.{commits, committedOf}
 
 -- refused where the number is not 0
-offered : (b : Bool) (a : Answer) (s : State) → pick (eqb (pick b asTaken notOffered) 0) a (refusedOf (pick b asTaken notOffered) s) ≡ pick b a (refusedOf notOffered s)
+offered : (b : Bool) (a : Answer) (s : State) → pick (eqb (pick b asTaken byNotOffered) 0) a (refusedOf (pick b asTaken byNotOffered) s) ≡ pick b a (refusedOf byNotOffered s)
 offered true a s = refl
 offered false a s = refl
 
-pub inner-absent : (s : State) (c : Choice) → s .memory .processes ≤ c .process → innerOf s c ≡ refusedOf notThere s
+pub inner-absent : (s : State) (c : Choice) → s .memory .processes ≤ c .process → innerOf s c ≡ refusedOf byNoProcess s
 unfolding refusesOf innerOf
 inner-absent s c l = rw (le-leb (s .memory .processes) (c .process) l) refl
 
@@ -39,6 +39,6 @@ module _ (s : State) (c : Choice) (there : c .process < s .memory .processes) (s
   unfolding commitRefuses refusesOf askOf goOf innerOf committedOf
   inner-commit e = rw (lt-leb (s .memory .processes) (c .process) there, lt-leb maxProcesses (c .process) small, ne-eqb (c .kind) 0 (λ h. omega arith), eq-eqb (c .kind) 1 e) (offered (isBlank c) (commits s c) s)
 
-  pub inner-unknown : (c .kind ≡ 0 → ⊥) → (c .kind ≡ 1 → ⊥) → innerOf s c ≡ refusedOf noSuchKind s
+  pub inner-unknown : (c .kind ≡ 0 → ⊥) → (c .kind ≡ 1 → ⊥) → innerOf s c ≡ refusedOf byNoKind s
   unfolding refusesOf innerOf
   inner-unknown n o = rw (lt-leb (s .memory .processes) (c .process) there, lt-leb maxProcesses (c .process) small, ne-eqb (c .kind) 0 n, ne-eqb (c .kind) 1 o) refl

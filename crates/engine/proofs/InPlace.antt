@@ -1,6 +1,9 @@
--- One record's step, by the parts that its code has in hand: so that a run can change its state in place. Assumes nothing.
---     step-refused, -unseen, -unmade, -taken     by the numbers: of the checks before memory, of what was seen, of what was made of memory
---     let-in, seat-number      what stands at the seat will do for the process: a record that is let in names one of the state's
+-- One record's step, by the parts that its code has in hand: so that a run can change its state in place. Assumes
+-- nothing.
+--     step-refused, -unseen, -unmade, -taken     by the numbers: of the checks before memory, of what was seen, of
+--                                                what was made of memory
+--     let-in, seat-number      what stands at the seat will do for the process: a record that is let in names one of
+--                              the state's
 --     loop-refused, -unseen, -unmade, -taken     the step by what stands at the seats
 use mathlib.Core.Path.{_≡_, refl, sym, ap, _∙_}
 use mathlib.Core.Bool.{Bool, true, false}
@@ -12,6 +15,7 @@ use lib.Dec.{leb}
 use lib.ListN.{length, getD, set}
 use borrow.Author.Tests.{ne-eqb, le-leb}
 use Rattle.base.specs.Pick.{pick}
+use Rattle.base.specs.Refusals.{byNoProcess}
 use Rattle.memory.specs.declared.Memory.{Memory}
 use Rattle.memory.specs.declared.Done.{Done}
 use Rattle.memory.specs.declared.asks.Ask.{Ask}
@@ -20,12 +24,11 @@ use Rattle.memory.specs.Memories.{maxProcesses, taken}
 use Rattle.memory.specs.Asks.{Told, sightOf, madeOf, toldOf}
 use Rattle.memory.proofs.Tellings.{told-refused, told-made}
 use Rattle.state.specs.declared.Process.{Process}
-use Rattle.state.specs.declared.Hands.{Hands}
+use Rattle.state.specs.declared.System.{System}
 use Rattle.state.specs.declared.State.{State}
 use Rattle.state.specs.declared.Choice.{Choice}
 use Rattle.state.specs.declared.Answer.{Answer}
 use Rattle.state.specs.declared.acts.Going.{Going}
-use Rattle.state.specs.Codes.{notThere}
 use Rattle.state.specs.States.{noProcess, mutatorsOf, processOf, withMemory, refusedOf, takenOf}
 use Rattle.state.specs.Acts.{handedOf, shakenOf, settingOf, wentOf, seatOf, upOf}
 use Rattle.state.proofs.Lists.{seat-there, up-here}
@@ -82,7 +85,7 @@ let-in m n c q e = go (decLt (c .process) maxProcesses)
     go (yes h) = h
     go (no h) = absurd (out (leb m (c .process)) (rw (le-leb maxProcesses (c .process) (omega (arith, h))) at e))
       where
-        out : (b : Bool) → pick b notThere notThere ≡ 0 → ⊥
+        out : (b : Bool) → pick b byNoProcess byNoProcess ≡ 0 → ⊥
         out true z = omega arith
         out false z = omega arith
 
@@ -116,12 +119,13 @@ module _ (s : State) (c : Choice) (sized : length (s .procs) ≡ maxProcesses) (
       pub loop-unmade : (d : Done) → d ≡ madeOf (s .memory) (c .process) a → (d .no ≡ 0 → ⊥) → innerOf s c .no ≡ d .no
       loop-unmade d e z = ap (λ (x : Answer). x .no) (step-unmade s c sits here zero a asks v sees clear d e z)
 
-      -- j is the seat of the mutator that x names, g how the process goes on, and m, l and h what memory, the processes and the system's part have become
+      -- j is the seat of the mutator that x names, g how the process goes on, and m, l and h what memory, the
+      -- processes and the system's part have become
       pub loop-taken :
-          (k j : ℕ) (up : Bool) (g : Going) (m : Memory) (l : List Process) (h : Hands) → k ≡ mutatorsOf s → j ≡ seatOf (c .x) → up ≡ upOf (c .x) (getD (s .procs) j noProcess)
-          → g ≡ goOf c (record { cells = s .memory .cells; mutators = k; hands = s .hands; up = up }) v sits
-          → madeOf (s .memory) (c .process) a ≡ taken m → l ≡ shakenOf (s .procs) (g .act) → h ≡ handedOf (s .hands) (g .act)
-          → innerOf s c ≡ takenOf (record { memory = m; procs = set l i (g .process); hands = h })
+          (k j : ℕ) (up : Bool) (g : Going) (m : Memory) (l : List Process) (h : System) → k ≡ mutatorsOf s → j ≡ seatOf (c .x) → up ≡ upOf (c .x) (getD (s .procs) j noProcess)
+          → g ≡ goOf c (record { cells = s .memory .cells; mutators = k; system = s .system; up = up }) v sits
+          → madeOf (s .memory) (c .process) a ≡ taken m → l ≡ shakenOf (s .procs) (g .act) → h ≡ handedOf (s .system) (g .act)
+          → innerOf s c ≡ takenOf (record { memory = m; procs = set l i (g .process); system = h })
       loop-taken k j up g m l h n e b w d f u =
           let z : g ≡ goOf c (settingOf s (c .x)) v sits = w ∙ rw (n, b, e, up-here s (c .x) sized) refl in
           step-taken s c sits here zero a asks v sees clear m g d z ∙ rw (f, u, at-place) refl

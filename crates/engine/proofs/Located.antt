@@ -8,21 +8,21 @@ use native.Mathlib.Omega.{arith}
 use borrow.Author.Tests.{not-true}
 use Rattle.base.specs.Every.{_and_}
 use Rattle.base.proofs.Everies.{and-both}
-use Rattle.sound.proofs.Shapes.{shaped}
+use Rattle.memory_formed.proofs.Shapes.{shaped}
 use Rattle.state.specs.declared.Process.{Process}
 use Rattle.state.specs.declared.State.{State}
 use Rattle.state.specs.declared.Choice.{Choice}
 use Rattle.state.specs.Codes.{row10Look, noStage, unlockStage, pollStage}
 use Rattle.state.specs.States.{mutatorsOf, processOf}
-use Rattle.fits.specs.Fits.{WellFormed, idlePlaces, plainPlaces, roundPlaces, scanPlaces, scanMarkPlaces, CollectorAt, plain, round, scan, scan-mark, sweep, sweep-free, MutatorAt, idle, mark-old, mark-y, write, roots-first, roots-rest}
-use Rattle.fits.proofs.Places.{all-true}
-use Rattle.fits.proofs.Gives.{sweep-at, mutator-within, collector-within}
-use Rattle.rows.specs.Offers.{markPlace, roundPlace}
-use Rattle.rows.specs.Reasons.{mover}
-use Rattle.rows.proofs.Standing.{Standing}
-use Rattle.rows.proofs.Numbers.{Buffered}
-use Rattle.rows.proofs.Mutators.{Mutating}
-use Rattle.rows.proofs.Rounds.{Collecting}
+use Rattle.formed.specs.Fits.{WellFormed, idlePlaces, plainPlaces, roundPlaces, scanPlaces, scanMarkPlaces, CollectorAt, plain, round, scan, scan-mark, sweep, sweep-free, MutatorAt, idle, mark-old, mark-y, write, roots-first, roots-rest}
+use Rattle.formed.proofs.Places.{all-true}
+use Rattle.formed.proofs.Gives.{sweep-at, mutator-within, collector-within}
+use Rattle.model.specs.Offers.{markPlace, roundPlace}
+use Rattle.model.specs.Reasons.{mover}
+use Rattle.model.proofs.Standing.{Standing}
+use Rattle.model.proofs.Numbers.{Buffered}
+use Rattle.model.proofs.Mutators.{Mutating}
+use Rattle.model.proofs.Rounds.{Collecting}
 
 -- ---- the stage of a place, by its kind: with no stages, those of a mark, or those of a round
 abbrev plainOf : ℕ → Bool

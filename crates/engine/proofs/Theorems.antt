@@ -14,28 +14,28 @@ use Prim.Native.Nat.{ℕ, _≤_, _<_}
 use native.Mathlib.Omega.{arith}
 use native.Mathlib.Decide.{decLt, ℕ-discrete}
 use Rattle.base.proofs.Picking.{pick-ind}
+use Rattle.base.specs.Refusals.{byMalformed, byNoProcess, byNoKind, byNotOffered}
 use Rattle.state.specs.declared.State.{State}
 use Rattle.state.specs.declared.Choice.{Choice}
 use Rattle.state.specs.declared.Answer.{Answer}
-use Rattle.state.specs.Codes as code
 use Rattle.memory.specs.Memories.{maxProcesses, taken}
 use Rattle.memory.specs.Steps.{commitOf}
 use Rattle.state.specs.States.{mutatorsOf, processOf, refusedOf, takenOf}
-use Rattle.fits.specs.Fits.{WellFormed}
-use Rattle.fits.specs.WellFormed.{wellFormedOf}
-use Rattle.fits.proofs.Whole.{well-formed}
-use Rattle.rows.specs.Rows.{Row, Collector, Mutator}
-use Rattle.rows.specs.Rows as row
-use Rattle.rows.specs.Reasons as reason
-use Rattle.rows.specs.Reasons.{Reason}
-use Rattle.rows.specs.Views as view
-use Rattle.rows.specs.Views.{View}
-use Rattle.rows.proofs.Road.{ownOf}
-use Rattle.rows.proofs.MutatorRows.{mutator-view, mutator-complete}
-use Rattle.rows.proofs.Collectors.{collector-view}
-use Rattle.rows.proofs.CollectorRows.{collector-complete}
-use Rattle.rows.proofs.Commits.{commit-view, commit-row}
-use Rattle.kept.proofs.Kept.{row-kept}
+use Rattle.formed.specs.Fits.{WellFormed}
+use Rattle.formed.specs.WellFormed.{wellFormedOf}
+use Rattle.formed.proofs.Whole.{well-formed}
+use Rattle.model.specs.Rows.{Row, Collector, Mutator}
+use Rattle.model.specs.Rows as row
+use Rattle.model.specs.Reasons as reason
+use Rattle.model.specs.Reasons.{Reason}
+use Rattle.model.specs.Views as view
+use Rattle.model.specs.Views.{View}
+use Rattle.model.proofs.Road.{ownOf}
+use Rattle.model.proofs.MutatorRows.{mutator-view, mutator-complete}
+use Rattle.model.proofs.Collectors.{collector-view}
+use Rattle.model.proofs.CollectorRows.{collector-complete}
+use Rattle.model.proofs.Commits.{commit-view, commit-row}
+use Rattle.stays_formed.proofs.Kept.{row-kept}
 use Rattle.engine.specs.Steps.{innerOf, stepOf}
 use Rattle.engine.specs.Statements.{First, lastNo, Refused, Answered, Numbered, MalformedExactly, Exact, Kept, InnerFormed, One}
 use Rattle.engine.proofs.ByKind.{inner-absent, inner-own, inner-commit, inner-unknown}
@@ -66,7 +66,7 @@ number s c k (reason.free e o) = record { some = omega arith; most = omega arith
 
 -- the reasons before 4, which speak of the whole choice: none below b holds where their checks are past
 module _ (s : State) (c : Choice) (w : WellFormed s) where
-  early : (b : ℕ) → b ≤ code.notOffered → (code.notThere < b → c .process ≤ mutatorsOf s) → (code.noSuchKind < b → (c .kind ≡ 0) ⊎ (c .kind ≡ 1)) → (k : ℕ) → k < b → Reason s c k → ⊥
+  early : (b : ℕ) → b ≤ byNotOffered → (byNoProcess < b → c .process ≤ mutatorsOf s) → (byNoKind < b → (c .kind ≡ 0) ⊎ (c .kind ≡ 1)) → (k : ℕ) → k < b → Reason s c k → ⊥
   early b m h d k l (reason.malformed e n) = n w
   early b m h d k l (reason.noProcess e n) = omega (arith, h (omega arith))
   early b m h d k l (reason.noKind e n o) = ⊎-elim n o (d (omega arith))
@@ -81,18 +81,18 @@ module _ (s : State) (c : Choice) (w : WellFormed s) where
 
   -- the view of an own step or a commit is one of the whole
   module _ (there : c .process ≤ mutatorsOf s) (d : (c .kind ≡ 0) ⊎ (c .kind ≡ 1)) (R : State → Type 0) (f : (t : State) → R t → Row s c t) where
-    past : (k : ℕ) → k ≤ code.noSuchKind → Reason s c k → ⊥
-    past k l = early code.notOffered (omega arith) (λ _. there) (λ _. d) k (omega arith)
+    past : (k : ℕ) → k ≤ byNoKind → Reason s c k → ⊥
+    past k l = early byNotOffered (omega arith) (λ _. there) (λ _. d) k (omega arith)
 
     whole-of : {a : Answer} → View R s c a → Whole s c a
-    whole-of (view.stops n l r) = stops n (omega arith) (record { holds = r .0; none-before = λ k u g. before k u g (decLt code.noSuchKind k) })
+    whole-of (view.stops n l r) = stops n (omega arith) (record { holds = r .0; none-before = λ k u g. before k u g (decLt byNoKind k) })
       where
-        before : (k : ℕ) → k < n → Reason s c k → Dec (code.noSuchKind < k) → ⊥
+        before : (k : ℕ) → k < n → Reason s c k → Dec (byNoKind < k) → ⊥
         before k u g (yes h) = r .1 k h u g
         before k u g (no h) = past k (omega arith) g
-    whole-of (view.goes {t} q r) = goes w (λ k g. clear k g (decLt code.noSuchKind k)) (f t r)
+    whole-of (view.goes {t} q r) = goes w (λ k g. clear k g (decLt byNoKind k)) (f t r)
       where
-        clear : (k : ℕ) → Reason s c k → Dec (code.noSuchKind < k) → ⊥
+        clear : (k : ℕ) → Reason s c k → Dec (byNoKind < k) → ⊥
         clear k g (yes h) = q k h g
         clear k g (no h) = past k (omega arith) g
 
@@ -119,7 +119,7 @@ inner-whole s c w = go (decLt (c .process) (s .memory .processes))
     go (no n) =
         let some-processes = w .memory .some-processes in
         by (inner-absent s c (omega arith))
-        (stops code.notThere (omega arith) (record { holds = reason.noProcess refl (omega arith); none-before = early s c w code.notThere (omega arith) (λ i. absurd (omega arith)) (λ i. absurd (omega arith)) }))
+        (stops byNoProcess (omega arith) (record { holds = reason.noProcess refl (omega arith); none-before = early s c w byNoProcess (omega arith) (λ i. absurd (omega arith)) (λ i. absurd (omega arith)) }))
     go (yes l) =
         let h : c .process ≤ mutatorsOf s = omega arith in
         let m = small s c w l in
@@ -127,9 +127,9 @@ inner-whole s c w = go (decLt (c .process) (s .memory .processes))
         (λ n. by-cases (ℕ-discrete (c .kind) 1)
         (λ k. by (inner-commit s c l m k) (whole-of s c w h (inr k) (Row s c) (λ t r. r) (commit-view s c k (buffered s c w h .shaped) h)))
         (λ o. by (inner-unknown s c l m n o)
-        (stops code.noSuchKind (omega arith) (record { holds = reason.noKind refl n o; none-before = early s c w code.noSuchKind (omega arith) (λ i. h) (λ i. absurd (omega arith)) }))))
+        (stops byNoKind (omega arith) (record { holds = reason.noKind refl n o; none-before = early s c w byNoKind (omega arith) (λ i. h) (λ i. absurd (omega arith)) }))))
 
-first-malformed : (s : State) (c : Choice) → (WellFormed s → ⊥) → First s c code.malformed
+first-malformed : (s : State) (c : Choice) → (WellFormed s → ⊥) → First s c byMalformed
 first-malformed s c n = record { holds = reason.malformed refl n; none-before = λ k l g. let z = number s c k g .some in omega arith }
 
 whole : (s : State) (c : Choice) → Whole s c (stepOf s c)
@@ -137,7 +137,7 @@ unfolding stepOf
 whole s c =
     pick-ind (Whole s c) (wellFormedOf s)
     (λ t. inner-whole s c (well-formed s .0 t))
-    (λ t. stops code.malformed (omega arith) (first-malformed s c (λ w. false≢true (sym t ∙ well-formed s .1 w))))
+    (λ t. stops byMalformed (omega arith) (first-malformed s c (λ w. false≢true (sym t ∙ well-formed s .1 w))))
 
 -- ---- demand 1
 -- two first reasons are one
@@ -177,8 +177,8 @@ within (goes w q r) = omega arith
 pub numbered : Numbered
 numbered s c = within (whole s c)
 
-not-first : {s : State} {c : Choice} {a : Answer} → WellFormed s → Whole s c a → a .no ≡ code.malformed → ⊥
-not-first {s} {c} w (stops n p f) e = early s c w code.notThere (omega arith) (λ i. absurd (omega arith)) (λ i. absurd (omega arith)) n (omega arith) (f .holds)
+not-first : {s : State} {c : Choice} {a : Answer} → WellFormed s → Whole s c a → a .no ≡ byMalformed → ⊥
+not-first {s} {c} w (stops n p f) e = early s c w byNoProcess (omega arith) (λ i. absurd (omega arith)) (λ i. absurd (omega arith)) n (omega arith) (f .holds)
 not-first w (goes v q r) e = omega arith
 
 pub malformed-exactly : MalformedExactly

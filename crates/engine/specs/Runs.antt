@@ -3,7 +3,7 @@ use mathlib.Core.Path.{_≡_}
 use mathlib.Core.List.{List, [], _∷_, _++_}
 use Rattle.state.specs.declared.State.{State}
 use Rattle.state.specs.declared.Choice.{Choice}
-use Rattle.fits.specs.Fits.{WellFormed}
+use Rattle.formed.specs.Fits.{WellFormed}
 use Rattle.engine.specs.Steps.{stepOf}
 
 -- the state after the choices, each taken or refused: "A step refusal returns the number and the same state."

@@ -2,15 +2,14 @@
 use mathlib.Core.Path.{_≡_}
 use mathlib.Core.Logic.{_↔_, _⊎_}
 use Prim.Native.Nat.{ℕ, _≤_, _<_}
-use Rattle.memory.specs.Memories.{byFree}
+use Rattle.base.specs.Refusals.{byMalformed, byFree}
 use Rattle.state.specs.declared.State.{State}
 use Rattle.state.specs.declared.Choice.{Choice}
 use Rattle.state.specs.declared.Answer.{Answer}
-use Rattle.state.specs.Codes.{malformed}
 use Rattle.state.specs.States.{takenOf, refusedOf}
-use Rattle.fits.specs.Fits.{WellFormed}
-use Rattle.rows.specs.Reasons.{Reason}
-use Rattle.rows.specs.Rows.{Row}
+use Rattle.formed.specs.Fits.{WellFormed}
+use Rattle.model.specs.Reasons.{Reason}
+use Rattle.model.specs.Rows.{Row}
 use Rattle.engine.specs.Steps.{innerOf, stepOf}
 
 -- "Checks run in number order": the first reason that holds is n
@@ -33,7 +32,8 @@ lastNo = byFree
 abbrev pub Numbered : Type 0
 Numbered = (s : State) (c : Choice) → stepOf s c .no ≤ lastNo
 
--- demand 2: "A choice is taken exactly when the published model, as condensed in document 01, has that step enabled, and the state after it is that step's."
+-- demand 2: "A choice is taken exactly when the published model, as condensed in document 01, has that step enabled,
+-- and the state after it is that step's."
 abbrev pub Exact : Type 0
 Exact = (s : State) (c : Choice) (t : State) → (stepOf s c ≡ takenOf t) ↔ (WellFormed s × Row s c t)
 
@@ -43,7 +43,7 @@ Kept = (s : State) (c : Choice) → WellFormed s → WellFormed (stepOf s c .sta
 
 -- 1: "the state is malformed", exactly then
 abbrev pub MalformedExactly : Type 0
-MalformedExactly = (s : State) (c : Choice) → (stepOf s c .no ≡ malformed) ↔ (WellFormed s → ⊥)
+MalformedExactly = (s : State) (c : Choice) → (stepOf s c .no ≡ byMalformed) ↔ (WellFormed s → ⊥)
 
 -- check 1 finds nothing in a well-formed state: the step is the one without it
 abbrev pub InnerFormed : Type 0

@@ -1,5 +1,9 @@
-// One record's step: the checks in number order; what the record asks of memory, and how its process goes on. A commit stands beside the own steps.
-// c is the choice, q the process that it names. `refuses`, `ask` and `go` take no state: so a run can keep one and change it in place.
+// One record's step: the checks in number order; what the record asks of memory, and how its process goes on. A
+// commit stands beside the own steps.
+// c is the choice, q the process that it names. `refuses`, `ask` and `go` take no state: so a run can keep one and
+// change it in place.
+use base::Refusal;
+use memory::Memory;
 use memory::asks::Ask;
 use memory::asks::Change;
 use memory::asks::Sight;
@@ -17,9 +21,9 @@ fn commit_refuses(c: Choice) -> u8
     ensures { λ r. ⌜ r ≡ commitRefuses c ⌝ }
 {
     if c.blank() {
-        return Answer::TAKEN;
+        return Refusal::TAKEN;
     }
-    Answer::NOT_OFFERED
+    Refusal::NOT_OFFERED
 }
 
 // Checks 2 to 4 and 6, n being the number of cells: the number of the refusal, or 0.
@@ -27,17 +31,17 @@ pub fn refuses(processes: u8, n: u8, c: Choice, q: Process) -> u8
     ensures { λ r. ⌜ r ≡ refusesOf processes n c q ⌝ }
 {
     if processes <= c.process {
-        return Answer::NO_PROCESS;
+        return Refusal::NO_PROCESS;
     }
     let i = c.process as usize;
-    if State::PROCESSES <= i {
-        return Answer::NO_PROCESS;
+    if Memory::PROCESSES <= i {
+        return Refusal::NO_PROCESS;
     }
     let kind = c.kind;
     match kind {
         Choice::OWN => own::refuses(n, c, q),
         Choice::COMMIT => commit_refuses(c),
-        2..=255 => Answer::NO_KIND,
+        Choice::BEYOND..=255 => Refusal::NO_KIND,
     }
 }
 
@@ -61,7 +65,8 @@ pub fn go(c: Choice, set: Setting, seen: Sight, q: Process) -> Going
     own::go(c, set, seen, q)
 }
 
-// Checks 2 to 11, and the step: for a state that is known to be well formed, as every state of a run from an opening is.
+// Checks 2 to 11, and the step: for a state that is known to be well formed, as every state of a run from an opening
+// is.
 pub fn inner(mut s: State, c: Choice) -> Answer
     ensures { λ r. ⌜ r ≡ innerOf s c ⌝ }
 {
@@ -91,8 +96,8 @@ pub fn inner(mut s: State, c: Choice) -> Answer
 pub fn step(s: State, c: Choice) -> Answer
     ensures { λ r. ⌜ r ≡ stepOf s c ⌝ }
 {
-    if !fits::well_formed(s) {
-        return s.refused(Answer::MALFORMED);
+    if !formed::well_formed(s) {
+        return s.refused(Refusal::MALFORMED);
     }
     inner(s, c)
 }

@@ -1,10 +1,13 @@
-// What is changed of the ground before a step, by a letter: the process p, the cell c, the field f and the value v are its digits.
+// What is changed of the ground before a step, by a letter: the process p, the cell c, the field f and the value v
+// are its digits.
 // In memory:
-//     l p   holds the lock      a . c   is occupied      d . c   is free      e p   has eight stores pending      k p   commits
+//     l p   holds the lock      a . c   is occupied      d . c   is free      e p   has eight stores pending      k p
+//           commits
 //     m p c . v   has a mark pending      w p c f v   has a field pending      s p . . v   has fM pending
 // In a process:
 //     P p c f v   is at the place cf, two digits, and the stage v
-//     X, Y, O, C p . . v   has the note x, y, old, cell      L, W, R p . . v   has left, list, roots, each a set as a number      U p   has its flag raised
+//     X, Y, O, C p . . v   has the note x, y, old, cell      L, W, R p . . v   has left, list, roots, each a set as a
+//                          number      U p   has its flag raised
 use super::places;
 use buffers::Buffer;
 use buffers::Entry;

@@ -1,12 +1,17 @@
-// Runs each kind of step from states made by hand and prints a line for each: what was tried, and the answer. The cases are the program's input, the file stdin beside src/,
-// one to a line: a name, the changes of the ground, the choice. The file stdout has what document 01 wants.
-// An answer is document 01's number. After a taken step, 0, comes where the process then is, as >place/stage; after a refusal an = where the state is the same, else an !.
-// The ground: three cells, of which 1 and 2 are occupied with mark 1, cell 1 names cell 2 in its field 0, and 3 is free; two mutators, 1 with the roots 1 and 2, 2 with the root 1;
-// all else as at an opening: fM and fA 1, phase Idle, type roots, flags down, the collector's noted fM 0. A case names the place of its process, and what is changed of the ground.
+// Runs each kind of step from states made by hand and prints a line for each: what was tried, and the answer. The
+// cases are the program's input, the file stdin beside src/, one to a line: a name, the changes of the ground, the
+// choice. The file stdout has what document 01 wants.
+// An answer is document 01's number. After a taken step, 0, comes where the process then is, as >place/stage; after a
+// refusal an = where the state is the same, else an !.
+// The ground: three cells, of which 1 and 2 are occupied with mark 1, cell 1 names cell 2 in its field 0, and 3 is
+// free; two mutators, 1 with the roots 1 and 2, 2 with the root 1; all else as at an opening: fM and fA 1, phase
+// Idle, type roots, flags down, the collector's noted fM 0. A case names the place of its process, and what is
+// changed of the ground.
 mod acts;
 mod places;
 mod same;
 
+use base::Refusal;
 use header::bytes::byte;
 use script::Change;
 use script::digit;
@@ -64,7 +69,7 @@ fn answer(s: State, p: u8, a: Answer) {
     let t = a.state;
     say(b" ");
     tell(a.no);
-    if a.no == Answer::TAKEN {
+    if a.no == Refusal::TAKEN {
         place(t.process(p));
     } else if same::state(s, t, p) {
         say(b"=");
@@ -104,8 +109,8 @@ fn more(text: &[u8]) -> usize {
     }
 }
 
-// What stands first in the text: + a change; = a choice, # a choice with each holder of the lock, after which the ground is as before; a semicolon, behind which is why the cases
-// below it are there; else a byte of a line.
+// What stands first in the text: + a change; = a choice, # a choice with each holder of the lock, after which the
+// ground is as before; a semicolon, behind which is why the cases below it are there; else a byte of a line.
 fn turn(s: State, text: &[u8]) -> State {
     let b = byte(text, 0);
     match b {

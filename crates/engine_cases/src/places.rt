@@ -1,5 +1,8 @@
 // A process that fits its place and stage: what the place uses has a value, and all else is zero.
 use state::Process;
+use state::codes::MarkStage;
+use state::codes::Place;
+use state::codes::RoundStage;
 
 // A store of 2 in field 0 of cell 1, over the old value 2.
 fn storing(mut q: Process) -> Process {
@@ -19,13 +22,13 @@ fn scanning(mut q: Process) -> Process {
 // The notes of the operation or the row, and what is left: roots 1 and 2, or cells 1 to 3.
 fn noted(mut q: Process, place: u8) -> Process {
     match place {
-        Process::STORE_MARK_OLD | Process::STORE_MARK_Y | Process::STORE_WRITE => return storing(q),
-        Process::ROOTS_MARK => q.left = 3,
-        Process::ROW7_READ0 => q.work = 3,
-        Process::ROW7_MARK0 | Process::ROW7_READ1 | Process::ROW7_MARK1 | Process::ROW7_DROP =>
+        Place::STORE_MARK_OLD | Place::STORE_MARK_Y | Place::STORE_WRITE => return storing(q),
+        Place::ROOTS_MARK => q.left = 3,
+        Place::ROW7_READ0 => q.work = 3,
+        Place::ROW7_MARK0 | Place::ROW7_READ1 | Place::ROW7_MARK1 | Place::ROW7_DROP =>
             return scanning(q),
-        Process::ROW10_LOOK => q.left = 7,
-        Process::ROW10_FREE => {
+        Place::ROW10_LOOK => q.left = 7,
+        Place::ROW10_FREE => {
             q.x = 1;
             q.left = 6;
         }
@@ -34,12 +37,13 @@ fn noted(mut q: Process, place: u8) -> Process {
     q
 }
 
-// A mark's notes: its cell is 2, the first look from the second stage, the noted fM from the third, the cell being greyed at the seventh.
+// A mark's notes: its cell is 2, the first look from the second stage, the noted fM from the third, the cell being
+// greyed at the seventh.
 fn marked(mut q: Process, stage: u8, cell: u8) -> Process {
     q.cell = cell;
-    q.look = Process::SENSE <= stage;
-    q.sense = Process::PHASE <= stage;
-    if stage == Process::UNLOCK {
+    q.look = MarkStage::SENSE <= stage;
+    q.sense = MarkStage::PHASE <= stage;
+    if stage == MarkStage::UNLOCK {
         q.grey = 2;
     }
     q
@@ -47,7 +51,7 @@ fn marked(mut q: Process, stage: u8, cell: u8) -> Process {
 
 // A round awaits mutators 1 and 2 while it raises and polls.
 fn awaiting(mut q: Process, stage: u8) -> Process {
-    if Process::RAISE <= stage {
+    if RoundStage::RAISE <= stage {
         q.left = 3;
     }
     q
@@ -56,14 +60,14 @@ fn awaiting(mut q: Process, stage: u8) -> Process {
 // At places 1 and 2 the cell being marked is the store's own note; at 7, stage 1, it is not yet named.
 fn staged(q: Process, place: u8, stage: u8) -> Process {
     match place {
-        Process::STORE_MARK_OLD | Process::STORE_MARK_Y => marked(q, stage, 0),
-        Process::ROOTS_MARK => {
-            if stage == Process::LOOK {
+        Place::STORE_MARK_OLD | Place::STORE_MARK_Y => marked(q, stage, 0),
+        Place::ROOTS_MARK => {
+            if stage == MarkStage::LOOK {
                 return q;
             }
             marked(q, stage, 2)
         }
-        Process::ROW7_MARK0 | Process::ROW7_MARK1 => marked(q, stage, 2),
+        Place::ROW7_MARK0 | Place::ROW7_MARK1 => marked(q, stage, 2),
         _ => awaiting(q, stage),
     }
 }

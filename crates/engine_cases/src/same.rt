@@ -1,4 +1,5 @@
-// Whether a refusal left the state as it came, by what steps change: the process itself, its buffer's length, the lock, the occupied cells, both senses, the system's list.
+// Whether a refusal left the state as it came, by what steps change: the process itself, its buffer's length, the
+// lock, the occupied cells, both senses, the system's list.
 use memory::Memory;
 use state::Process;
 use state::State;
@@ -69,8 +70,8 @@ pub(crate) fn state(a: State, b: State, p: u8) -> bool {
     if !process(a.process(p), b.process(p)) {
         return false;
     }
-    let h = a.hands;
-    let k = b.hands;
+    let h = a.system;
+    let k = b.system;
     if h.work != k.work {
         return false;
     }

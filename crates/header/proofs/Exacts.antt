@@ -16,7 +16,7 @@ use Rattle.base.proofs.Lists.{length-listed, listed-at}
 use Rattle.memory.specs.Memories.{maxMutators}
 use Rattle.state.specs.declared.opening.Heap.{Heap}
 use Rattle.state.specs.Openings.{openMemory, openProcess, rootsAt, openingOf}
-use Rattle.fits.specs.Fits.{HeapFits}
+use Rattle.formed.specs.Fits.{HeapFits}
 use Rattle.header.specs.Header.{maxLog, cellPlace, rootsPlace, heapOf}
 use Rattle.header.specs.Admitted.{Sound}
 use Rattle.header.specs.Written.{heapMutators, bytesOf, rootsSaid, asSaid, SaidOpens, WrittenRead, Opens, HeapsExactly, OpeningsExactly}

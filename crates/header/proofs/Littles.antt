@@ -1,4 +1,5 @@
--- Numbers written as bytes, the lowest first, and lists written one after the other: what is read of them again. Assumes nothing.
+-- Numbers written as bytes, the lowest first, and lists written one after the other: what is read of them again.
+-- Assumes nothing.
 --     little-read                   a number that fits its bytes
 --     pair-little, word-little      the numbers of two bytes and of a root set are read so
 --     length-little, -turns         how long they are

@@ -1,6 +1,7 @@
 -- What an opened log is known by. Assumes nothing.
 --     open-admitted, open-refused    `openOf` where the tests hold, and where one fails
---     open-yes, open-no              an answer of 0 is the heap of an admitted log, any other is stop 12 of one that is not
+--     open-yes, open-no              an answer of 0 is the heap of an admitted log, any other is stop 12 of one that
+--                                    is not
 --     long-enough, not-long          its size
 use mathlib.Core.Path.{_≡_, refl, ap, _∙_}
 use mathlib.Core.Bool.{true, false}
@@ -10,9 +11,10 @@ use Prim.Native.Nat.{ℕ, _≤_}
 use native.Mathlib.Omega.{arith}
 use lib.ListN.{length}
 use borrow.Author.Tests.{leb-true}
+use Rattle.base.specs.Refusals.{notAdmitted}
 use Rattle.cells.proofs.Bools.{split}
 use Rattle.header.specs.declared.Opened.{Opened}
-use Rattle.header.specs.Header.{maxLog, sizeOf, admittedOf, heapOf, notAdmitted, opened, unopened, openOf}
+use Rattle.header.specs.Header.{maxLog, sizeOf, admittedOf, heapOf, opened, unopened, openOf}
 use Rattle.header.proofs.Agrees.{tests}
 
 pub open-admitted : (log : List ℕ) → admittedOf log ≡ true → openOf log ≡ opened (heapOf log)

@@ -23,8 +23,8 @@ use Rattle.buffers.specs.Fits.{IsCell}
 use Rattle.memory.specs.Memories.{maxCells, maxMutators, atCell}
 use Rattle.state.specs.declared.opening.Heap.{Heap}
 use Rattle.state.specs.Openings.{openMemory, rootsAt, openingOf}
-use Rattle.fits.specs.Fits.{heapField, HeapFits}
-use Rattle.fits.proofs.Opens.{opening-formed}
+use Rattle.formed.specs.Fits.{heapField, HeapFits}
+use Rattle.formed.proofs.Opens.{opening-formed}
 use Rattle.header.specs.Bytes.{perByte, byteAt, pairAt}
 use Rattle.header.specs.Header.{maxLog, versionPlace, theVersion, heapPlace, cellFields, cellSize, rootsSize, cellPlace, rootsPlace, occupiedAt, fieldAt, rootsRead, usedAmong, fieldIn, fieldsOf, rootsIn, rootsOf, readHeap, heapOf}
 use Rattle.header.specs.Admitted.{saidOf, fieldSaid, Admitted}

@@ -1,4 +1,5 @@
--- The header of a log as facts, clause by clause in document 01's words: which logs are opened, and what is known of the heap of one that is. Assumes nothing.
+-- The header of a log as facts, clause by clause in document 01's words: which logs are opened, and what is known of
+-- the heap of one that is. Assumes nothing.
 use mathlib.Core.Path.{_≡_}
 use mathlib.Core.Bool.{false}
 use mathlib.Core.List.{List, [], _∷_}
@@ -9,7 +10,7 @@ use Rattle.cells.specs.Sets.{noCells, memberOf, Member}
 use Rattle.memory.specs.Memories.{maxCells, maxMutators}
 use Rattle.state.specs.declared.opening.Heap.{Heap}
 use Rattle.state.specs.Openings.{rootsAt}
-use Rattle.fits.specs.Fits.{HeapFits}
+use Rattle.formed.specs.Fits.{HeapFits}
 use Rattle.header.specs.Bytes.{pairAt}
 use Rattle.header.specs.Header.{maxLog, letterM, letterG, letterT, versionPlace, theVersion, cellsSaid, mutatorsSaid, cellFields, sizeOf, occupiedAt, fieldAt, rootsRead}
 

@@ -1,4 +1,5 @@
--- The bytes of a log, by their places from 0, and the numbers made of two and of four: "little-endian, as all here". Assumes nothing.
+-- The bytes of a log, by their places from 0, and the numbers made of two and of four: "little-endian, as all here".
+-- Assumes nothing.
 use Prim.Native.Nat.{ℕ, _+_, _*_}
 use mathlib.Core.List.{List}
 use lib.ListN.{getD}

@@ -1,5 +1,5 @@
--- The header of a log as the code reads it: the tests in their order, and the heap that it gives. `Admitted` says the same as facts; proofs/Agrees has that the
--- two agree. Assumes nothing.
+-- The header of a log as the code reads it: the tests in their order, and the heap that it gives. `Admitted` says the
+-- same as facts; proofs/Agrees has that the two agree. Assumes nothing.
 use mathlib.Core.Bool.{Bool, true, false}
 use mathlib.Core.List.{List}
 use Prim.Native.Nat.{ℕ, zero, suc, _+_, _*_}
@@ -7,6 +7,7 @@ use lib.Dec.{eqb, ltb, leb}
 use lib.ListN.{length, replicate}
 use Rattle.base.specs.Pick.{pick, listed}
 use Rattle.base.specs.Every.{_and_, every}
+use Rattle.base.specs.Refusals.{notAdmitted}
 use Rattle.cells.specs.Sets.{noCells, isNone, memberOf, addOf, minusOf, belowOf}
 use Rattle.memory.specs.Memories.{maxCells, maxMutators}
 use Rattle.state.specs.declared.opening.Heap.{Heap}
@@ -17,7 +18,8 @@ use Rattle.header.specs.Bytes.{byteAt, pairAt, wordAt}
 abbrev pub maxLog : ℕ
 maxLog = 65536
 
--- ---- where things stand: "Bytes 4D 47 54 ("MGT"), a 16-bit version 1 .., N, M; per cell: occupied (0 or 1), field 0, field 1; per mutator a 32-bit root set"
+-- ---- where things stand: "Bytes 4D 47 54 ("MGT"), a 16-bit version 1 .., N, M; per cell: occupied (0 or 1), field
+-- 0, field 1; per mutator a 32-bit root set"
 abbrev pub letterM : ℕ
 letterM = 77
 
@@ -158,10 +160,6 @@ heapOf log = readHeap log (cellsSaid log) (mutatorsSaid log)
 -- the heap of a log that is not opened
 abbrev pub noHeap : Heap
 noHeap = record { cells = 0; processes = 0; used = noCells; field0 = replicate maxCells 0; field1 = replicate maxCells 0; roots = replicate maxMutators noCells }
-
--- "stop 12"
-abbrev pub notAdmitted : ℕ
-notAdmitted = 12
 
 abbrev pub opened : Heap → Opened
 opened h = record { no = 0; heap = h }

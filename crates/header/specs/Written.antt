@@ -1,5 +1,6 @@
--- The header of a log as bytes, written from a heap: "Bytes 4D 47 54 ("MGT"), a 16-bit version 1 (little-endian, as all here), N, M; per cell: occupied (0 or 1),
--- field 0, field 1; per mutator a 32-bit root set, bit 0 for cell 1." And what is proved of them, each statement by its name. Assumes nothing.
+-- The header of a log as bytes, written from a heap: "Bytes 4D 47 54 ("MGT"), a 16-bit version 1 (little-endian, as
+-- all here), N, M; per cell: occupied (0 or 1), field 0, field 1; per mutator a 32-bit root set, bit 0 for cell 1."
+-- And what is proved of them, each statement by its name. Assumes nothing.
 use mathlib.Core.Path.{_≡_}
 use mathlib.Core.List.{List, [], _∷_, _++_}
 use mathlib.Core.Logic.{_↔_}
@@ -12,7 +13,7 @@ use Rattle.memory.specs.Memories.{maxMutators}
 use Rattle.state.specs.declared.State.{State}
 use Rattle.state.specs.declared.opening.Heap.{Heap}
 use Rattle.state.specs.Openings.{rootsAt, openingOf}
-use Rattle.fits.specs.Fits.{HeapFits}
+use Rattle.formed.specs.Fits.{HeapFits}
 use Rattle.header.specs.Bytes.{perByte, byteAt}
 use Rattle.header.specs.Header.{maxLog, letterM, letterG, letterT, theVersion, rootsSize, sizeOf, heapOf}
 use Rattle.header.specs.Admitted.{Admitted, Sound}

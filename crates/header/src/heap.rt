@@ -3,6 +3,7 @@ use super::Layout;
 use super::bytes::byte;
 use super::bytes::word;
 use memory::Memory;
+use state::State;
 use state::opening::Heap;
 ghost use mathlib.Core.Path.{_≡_};
 ghost use Prim.Native.Nat.{_≤_};
@@ -103,7 +104,7 @@ fn roots_in(log: &[u8], n: u8, m: u8, k: u8) -> u64
 }
 
 // The roots of all mutators.
-fn roots(log: &[u8], n: u8, m: u8) -> [u64; Layout::ROOT_SETS]
+fn roots(log: &[u8], n: u8, m: u8) -> [u64; State::ROOT_SETS]
     ensures { λ r. ⌜ r ≡ rootsOf (now (log .entry)) n m ⌝ }
 {
     let a = roots_in(log, n, m, 0);

@@ -3,8 +3,10 @@ pub mod bytes;
 mod heap;
 mod tests;
 
+use base::Stop;
 use bytes::byte;
 use memory::Memory;
+use state::State;
 use state::opening::Heap;
 ghost use mathlib.Core.Path.{_≡_};
 ghost use Rattle.header.specs.Header.{unopened, sizeOf, openOf};
@@ -18,8 +20,6 @@ pub struct Opened {
 // "A log is at most 65,536 bytes, else stop 12."
 impl Opened {
     pub const MAX_LOG: usize = 65536;
-
-    pub const NOT_ADMITTED: u8 = 12;
 }
 
 // Where the parts of a header stand, and how long they are.
@@ -39,13 +39,6 @@ impl Layout {
     pub const CELL_SIZE: u32 = 3;
 
     pub const ROOTS_SIZE: u32 = 4;
-
-    pub const MAX_CELLS: u8 = 32;
-
-    pub const MAX_MUTATORS: u8 = 4;
-
-    // a root set for each mutator that there may be
-    pub const ROOT_SETS: usize = 4;
 }
 
 // "stop 12"
@@ -53,7 +46,7 @@ fn closed() -> Opened
     ensures { λ r. ⌜ r ≡ unopened ⌝ }
 {
     let none = [0; Memory::CELLS];
-    let roots = [0; Layout::ROOT_SETS];
+    let roots = [0; State::ROOT_SETS];
     let heap = Heap {
         cells: 0,
         processes: 0,
@@ -63,7 +56,7 @@ fn closed() -> Opened
         roots,
     };
     Opened {
-        no: Opened::NOT_ADMITTED,
+        no: Stop::NOT_ADMITTED,
         heap,
     }
 }

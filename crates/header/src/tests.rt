@@ -4,6 +4,8 @@ use super::Opened;
 use super::bytes::byte;
 use super::bytes::pair;
 use super::heap;
+use memory::Memory;
+use state::State;
 ghost use mathlib.Core.Path.{_≡_};
 ghost use Rattle.header.specs.Header.{lettersOf, countsOf, namesOf, cellFitsOf, cellAtOf, rootsFitOf, cellsFitOf, allRootsFitOf, heapFitsOf, admittedOf};
 
@@ -30,13 +32,13 @@ fn counts(n: u8, m: u8) -> bool
     if n < 1 {
         return false;
     }
-    if Layout::MAX_CELLS < n {
+    if Memory::CELLS < n as usize {
         return false;
     }
     if m < 1 {
         return false;
     }
-    m <= Layout::MAX_MUTATORS
+    m <= State::MUTATORS
 }
 
 // "is 0 or names an occupied cell"

@@ -1,5 +1,5 @@
-// Runs each log of the marked table through the judge, and writes a line for it: the case, the numbers expected and given, and whether they are the same. The last line has
-// the number of logs for which they differ.
+// Runs each log of the marked table through the judge, and writes a line for it: the case, the numbers expected and
+// given, and whether they are the same. The last line has the number of logs for which they differ.
 mod table;
 
 use header::bytes::byte;

@@ -1,5 +1,6 @@
 // "Stalls we know (the marked table)": its thirteen logs; case 12 has two.
-// A case is a row of five bytes (its number, the steps, the stop and the verdict expected, the length of its log) and then its log: a row for the header and one for each record.
+// A case is a row of five bytes (its number, the steps, the stop and the verdict expected, the length of its log) and
+// then its log: a row for the header and one for each record.
 ghost use mathlib.Core.Path.{_≡_};
 ghost use Rattle.claims.specs.Marked.{table};
 ghost use Rattle.marked_cases.specs.Bytes.{tableBytes};

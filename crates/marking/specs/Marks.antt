@@ -1,5 +1,6 @@
--- "Marking a cell r": "Null: nothing. Otherwise: look at r's mark; read fM, stop if equal; read phase, stop if Idle; lock; look again; if the two looks agree, write mark :=
--- noted fM (r is now being greyed); unlock. .. Each of these seven is one step." What a step offers, what it asks of memory, and how it goes on with what was seen.
+-- "Marking a cell r": "Null: nothing. Otherwise: look at r's mark; read fM, stop if equal; read phase, stop if Idle;
+-- lock; look again; if the two looks agree, write mark := noted fM (r is now being greyed); unlock. .. Each of these
+-- seven is one step." What a step offers, what it asks of memory, and how it goes on with what was seen.
 -- Assumes nothing.
 use mathlib.Core.Bool.{Bool, true, false}
 use Prim.Native.Nat.{ℕ}
@@ -39,7 +40,8 @@ namesRoot q = eqb (q .place) rootsMark and eqb (q .stage) lookStage
 unfoldable pub markOffers : Choice → Process → Bool
 markOffers c q = pick (namesRoot q) (isNaming c (q .left)) (isBlank c)
 
--- ---- what is asked. The cell being marked: a running store's old value or y, the root that is named, else the one noted
+-- ---- what is asked. The cell being marked: a running store's old value or y, the root that is named, else the one
+-- noted
 unfoldable pub markedCell : Choice → Process → ℕ
 markedCell c q =
     pick (eqb (q .place) storeMarkOld) (q .old)
@@ -119,7 +121,8 @@ stageGo p r v q =
     (pick (eqb (q .stage) unlockStage) (unlockGo p r q)
     q))))))
 
--- where the process goes when the mark of its site is over: "then mark the old; mark y; write the field"; "mark each root"; "read field 0, mark it, read field 1, mark it, drop x"
+-- where the process goes when the mark of its site is over: "then mark the old; mark y; write the field"; "mark each
+-- root"; "read field 0, mark it, read field 1, mark it, drop x"
 unfoldable pub pastOf : Process → Process
 pastOf q =
     pick (eqb (q .place) storeMarkOld) (pick (eqb (q .y) 0) (at storeWrite (q .stage) q) (at storeMarkY lookStage q))

@@ -1,4 +1,5 @@
-// "Marking a cell r": seven steps, at five sites of the two programs. What each step offers, what it asks of memory, and how it goes on with what was seen.
+// "Marking a cell r": seven steps, at five sites of the two programs. What each step offers, what it asks of memory,
+// and how it goes on with what was seen.
 // c is the choice, q the process that makes it.
 use buffers::Phase;
 use buffers::Spot;
@@ -7,6 +8,9 @@ use memory::asks::Ask;
 use memory::asks::Change;
 use state::Choice;
 use state::Process;
+use state::codes::MarkStage;
+use state::codes::Place;
+use state::codes::Stage;
 ghost use mathlib.Core.Path.{_≡_};
 ghost use Rattle.marking.specs.Marks.{isSite, namesRoot, markOffers, markedCell, stageAsk, markAsk, namedRoot, onStage, overOf, isIdle, lookGo, senseGo, phaseGo, againGo, writeGo, unlockGo, stageGo, pastOf, pastOver, markGo};
 
@@ -15,21 +19,22 @@ pub fn is_site(place: u8) -> bool
     ensures { λ r. ⌜ r ≡ isSite place ⌝ }
 {
     match place {
-        Process::STORE_MARK_OLD => true,
-        Process::STORE_MARK_Y => true,
-        Process::ROOTS_MARK => true,
-        Process::ROW7_MARK0 => true,
-        Process::ROW7_MARK1 => true,
+        Place::STORE_MARK_OLD => true,
+        Place::STORE_MARK_Y => true,
+        Place::ROOTS_MARK => true,
+        Place::ROW7_MARK0 => true,
+        Place::ROW7_MARK1 => true,
         _ => false,
     }
 }
 
-// "for roots, mark each root, the choice x naming which remaining one at its first look": whether the step is that look.
+// "for roots, mark each root, the choice x naming which remaining one at its first look": whether the step is that
+// look.
 fn names_root(q: Process) -> bool
     ensures { λ r. ⌜ r ≡ namesRoot q ⌝ }
 {
-    if q.place == Process::ROOTS_MARK {
-        return q.stage == Process::LOOK;
+    if q.place == Place::ROOTS_MARK {
+        return q.stage == MarkStage::LOOK;
     }
     false
 }
@@ -48,10 +53,10 @@ pub fn offers(c: Choice, q: Process) -> bool
 fn cell(c: Choice, q: Process) -> u8
     ensures { λ r. ⌜ r ≡ markedCell c q ⌝ }
 {
-    if q.place == Process::STORE_MARK_OLD {
+    if q.place == Place::STORE_MARK_OLD {
         return q.old;
     }
-    if q.place == Process::STORE_MARK_Y {
+    if q.place == Place::STORE_MARK_Y {
         return q.y;
     }
     if names_root(q) {
@@ -60,24 +65,25 @@ fn cell(c: Choice, q: Process) -> u8
     q.cell
 }
 
-// "look at r's mark; read fM, ..; read phase, ..; lock; look again; .. write mark := noted fM ..; unlock": what the stage asks about the cell x.
+// "look at r's mark; read fM, ..; read phase, ..; lock; look again; .. write mark := noted fM ..; unlock": what the
+// stage asks about the cell x.
 fn stage_ask(x: u8, q: Process) -> Ask
     ensures { λ r. ⌜ r ≡ stageAsk x q ⌝ }
 {
     let stage = q.stage;
     match stage {
-        Process::NO_STAGE => Ask::Nothing,
-        Process::LOOK => Ask::Look(Spot::Mark(x)),
-        Process::SENSE => Ask::Look(Spot::Sense),
-        Process::PHASE => Ask::Look(Spot::Phase),
-        Process::LOCK => Ask::Make(Change::Lock),
-        Process::AGAIN => Ask::Look(Spot::Mark(x)),
-        Process::WRITE => Ask::Make(Change::Write(Store::Mark {
+        Stage::NONE => Ask::Nothing,
+        MarkStage::LOOK => Ask::Look(Spot::Mark(x)),
+        MarkStage::SENSE => Ask::Look(Spot::Sense),
+        MarkStage::PHASE => Ask::Look(Spot::Phase),
+        MarkStage::LOCK => Ask::Make(Change::Lock),
+        MarkStage::AGAIN => Ask::Look(Spot::Mark(x)),
+        MarkStage::WRITE => Ask::Make(Change::Write(Store::Mark {
             cell: x,
             bit: q.sense,
         })),
-        Process::UNLOCK => Ask::Make(Change::Unlock),
-        8..=255 => Ask::Nothing,
+        MarkStage::UNLOCK => Ask::Make(Change::Unlock),
+        MarkStage::BEYOND..=255 => Ask::Nothing,
     }
 }
 
@@ -111,7 +117,7 @@ fn on(stage: u8, mut q: Process) -> Process
 fn over(p: u8, mut q: Process) -> Process
     ensures { λ r. ⌜ r ≡ overOf p q ⌝ }
 {
-    q.stage = Process::NO_STAGE;
+    q.stage = Stage::NONE;
     q.cell = 0;
     q.look = false;
     q.grey = 0;
@@ -138,7 +144,7 @@ fn look(bit: bool, mut q: Process) -> Process
     ensures { λ r. ⌜ r ≡ lookGo bit q ⌝ }
 {
     q.look = bit;
-    on(Process::SENSE, q)
+    on(MarkStage::SENSE, q)
 }
 
 // "read fM, stop if equal": the value read becomes the noted fM.
@@ -149,7 +155,7 @@ fn sense(p: u8, bit: bool, mut q: Process) -> Process
     if base::same(q.look, bit) {
         return over(p, q);
     }
-    on(Process::PHASE, q)
+    on(MarkStage::PHASE, q)
 }
 
 // "read phase, stop if Idle"
@@ -159,7 +165,7 @@ fn phase(p: u8, seen: Phase, q: Process) -> Process
     if is_idle(seen) {
         return over(p, q);
     }
-    on(Process::LOCK, q)
+    on(MarkStage::LOCK, q)
 }
 
 // "look again; if the two looks agree, write"
@@ -167,9 +173,9 @@ fn again(bit: bool, q: Process) -> Process
     ensures { λ r. ⌜ r ≡ againGo bit q ⌝ }
 {
     if base::same(q.look, bit) {
-        return on(Process::WRITE, q);
+        return on(MarkStage::WRITE, q);
     }
-    on(Process::UNLOCK, q)
+    on(MarkStage::UNLOCK, q)
 }
 
 // "write mark := noted fM (r is now being greyed)"
@@ -177,7 +183,7 @@ fn write(cell: u8, mut q: Process) -> Process
     ensures { λ r. ⌜ r ≡ writeGo cell q ⌝ }
 {
     q.grey = cell;
-    on(Process::UNLOCK, q)
+    on(MarkStage::UNLOCK, q)
 }
 
 // "The unlock also puts a winner's r on its list and ends its greying."
@@ -197,52 +203,53 @@ fn stage_go(p: u8, cell: u8, seen: Store, q: Process) -> Process
 {
     let stage = q.stage;
     match stage {
-        Process::NO_STAGE => q,
-        Process::LOOK => look(seen.bit_in(), q),
-        Process::SENSE => sense(p, seen.bit_in(), q),
-        Process::PHASE => phase(p, seen.phase_in(), q),
-        Process::LOCK => on(Process::AGAIN, q),
-        Process::AGAIN => again(seen.bit_in(), q),
-        Process::WRITE => write(cell, q),
-        Process::UNLOCK => unlock(p, cell, q),
-        8..=255 => q,
+        Stage::NONE => q,
+        MarkStage::LOOK => look(seen.bit_in(), q),
+        MarkStage::SENSE => sense(p, seen.bit_in(), q),
+        MarkStage::PHASE => phase(p, seen.phase_in(), q),
+        MarkStage::LOCK => on(MarkStage::AGAIN, q),
+        MarkStage::AGAIN => again(seen.bit_in(), q),
+        MarkStage::WRITE => write(cell, q),
+        MarkStage::UNLOCK => unlock(p, cell, q),
+        MarkStage::BEYOND..=255 => q,
     }
 }
 
-// Where the process goes when the mark of its site is over, or where there is nothing to mark: "then mark the old; mark y; write the field"; to the next root, or to
-// the end of the answer; "read field 0, mark it, read field 1, mark it, drop x".
+// Where the process goes when the mark of its site is over, or where there is nothing to mark: "then mark the old;
+// mark y; write the field"; to the next root, or to the end of the answer; "read field 0, mark it, read field 1, mark
+// it, drop x".
 pub fn past(mut q: Process) -> Process
     ensures { λ r. ⌜ r ≡ pastOf q ⌝ }
 {
     let place = q.place;
     match place {
-        Process::STORE_MARK_OLD => {
+        Place::STORE_MARK_OLD => {
             if q.y == 0 {
-                q.place = Process::STORE_WRITE;
+                q.place = Place::STORE_WRITE;
                 return q;
             }
-            q.place = Process::STORE_MARK_Y;
-            q.stage = Process::LOOK;
+            q.place = Place::STORE_MARK_Y;
+            q.stage = MarkStage::LOOK;
             q
         }
-        Process::STORE_MARK_Y => {
-            q.place = Process::STORE_WRITE;
+        Place::STORE_MARK_Y => {
+            q.place = Place::STORE_WRITE;
             q
         }
-        Process::ROOTS_MARK => {
+        Place::ROOTS_MARK => {
             if q.left == 0 {
-                q.place = Process::ROOTS_FINISH;
+                q.place = Place::ROOTS_FINISH;
                 return q;
             }
-            q.stage = Process::LOOK;
+            q.stage = MarkStage::LOOK;
             q
         }
-        Process::ROW7_MARK0 => {
-            q.place = Process::ROW7_READ1;
+        Place::ROW7_MARK0 => {
+            q.place = Place::ROW7_READ1;
             q
         }
-        Process::ROW7_MARK1 => {
-            q.place = Process::ROW7_DROP;
+        Place::ROW7_MARK1 => {
+            q.place = Place::ROW7_DROP;
             q
         }
         _ => q,
@@ -253,7 +260,7 @@ pub fn past(mut q: Process) -> Process
 fn past_over(q: Process) -> Process
     ensures { λ r. ⌜ r ≡ pastOver q ⌝ }
 {
-    if q.stage == Process::NO_STAGE {
+    if q.stage == Stage::NONE {
         return past(q);
     }
     q

@@ -1,15 +1,17 @@
 -- What can be done again after a step that is taken. Assumes nothing.
 --     write-again           "Room in a buffer is usable again after each commit": the same process can write
 --     allocate-again        "a freed cell may be allocated again", by any process that is not blocked
---     locked-own, locked-others, locked-held       after a lock its process is not blocked, everybody else is, and nobody can lock
+--     locked-own, locked-others, locked-held       after a lock its process is not blocked, everybody else is, and
+--                                                  nobody can lock
 --     unlocked-all, lock-again                     after an unlock nobody is blocked, and anybody can lock
 use mathlib.Core.Path.{_≡_, ap}
 use mathlib.Core.Bool.{true, false}
 use Prim.Native.Nat.{ℕ, _+_}
 use native.Mathlib.Omega.{arith}
 use lib.ListN.{length}
+use Rattle.base.specs.Refusals.{byBlocked}
 use Rattle.memory.specs.declared.Memory.{Memory}
-use Rattle.memory.specs.Memories.{byBlocked, taken, withLock, blockedOf}
+use Rattle.memory.specs.Memories.{taken, withLock, blockedOf}
 use Rattle.memory.specs.Steps.{lockOf}
 use Rattle.memory.specs.Laws.{RoomAgain, CellAgain}
 use Rattle.memory.proofs.Shapes.{Shaped, pending-fits}

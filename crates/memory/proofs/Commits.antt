@@ -1,5 +1,7 @@
--- What a commit leaves in memory, by the kind of store. Occupied cells, lock and counts stay, and so does every part that is not named (Committed, Alike). Assumes nothing.
---     mark-committed, field-committed, sense-committed, alloc-sense-committed, phase-committed     memory is alike to the one with that part replaced
+-- What a commit leaves in memory, by the kind of store. Occupied cells, lock and counts stay, and so does every part
+-- that is not named (Committed, Alike). Assumes nothing.
+--     mark-committed, field-committed, sense-committed, alloc-sense-committed, phase-committed     memory is alike to
+--     the one with that part replaced
 --     mark-here, marks-elsewhere        the mark of that cell alone
 --     committed-field                   each field is as before, or has the value of the store
 --     field-here, fields-elsewhere      that field of that cell alone
@@ -15,7 +17,7 @@ use Rattle.buffers.specs.declared.Spot.the-variants as spot
 use Rattle.buffers.specs.Stores.{valueOf, spotCellOf, spotFieldOf}
 use Rattle.buffers.proofs.Hits.{hits-own, hits-other}
 use Rattle.memory.specs.declared.Memory.{Memory}
-use Rattle.memory.specs.Memories.{markOf, fieldOf, putMarkOf, putFieldOf, withSense, withAllocSense, withPhase, thereOf, heldOf, appliedOf}
+use Rattle.memory.specs.Memories.{markOf, fieldOf, putMarkOf, putFieldOf, withSense, withAllocSense, withPhase, thereOf, standsOf, appliedOf}
 use Rattle.memory.proofs.Shapes.{Shaped}
 use Rattle.memory.proofs.Spots.{lastField, Alike, cell-same, cell-other, held-field, field-same, applied-field}
 use Rattle.memory.proofs.Effects.{Committed, committed-held}
@@ -53,7 +55,7 @@ module _ {m : Memory} {p : ℕ} {n : Memory} (w : Committed m p n) where
   pub committed-field : (d g : ℕ) → (fieldOf n d g ≡ fieldOf m d g) ⊎ (fieldOf n d g ≡ valueOf (w .oldest .store))
   committed-field d g = rw (field-same (appliedOf m (w .oldest .store)) n d g (w .alike)) (applied-field m (w .oldest .store) d g)
 
-  held-value : (k : Memory) (c f : ℕ) → valueOf (heldOf k (spot.Field c f)) ≡ fieldOf k c f
+  held-value : (k : Memory) (c f : ℕ) → valueOf (standsOf k (spot.Field c f)) ≡ fieldOf k c f
   held-value k c f = rw (held-field k c f) refl
 
   pub field-here : {c f v : ℕ} → Shaped m → w .oldest .store ≡ store.Field c f v → f ≤ lastField → fieldOf n c f ≡ v

@@ -5,9 +5,12 @@
 --     fence-taken                       Fenced: nothing was pending, and nothing changes
 --     lock-taken, unlock-taken          Locked, Unlocked: the lock alone changes (Relocked)
 --     allocate-taken, free-taken        Allocated, Freed: one cell alone changes (Reset)
---     write-settled, commit-settled, lock-settled, unlock-settled     of any memory, shaped or not: the counts and the occupied cells stay
---     allocate-used, free-used, allocate-counts, free-counts          .. the occupied cells change by one, and the counts stay
---     committed-held                    after a commit its store is held at its spot, and every other spot is as before; Commits has it by the kind of store
+--     write-settled, commit-settled, lock-settled, unlock-settled     of any memory, shaped or not: the counts and
+--     the occupied cells stay
+--     allocate-used, free-used, allocate-counts, free-counts          .. the occupied cells change by one, and the
+--     counts stay
+--     committed-held                    after a commit its store is held at its spot, and every other spot is as
+--                                       before; Commits has it by the kind of store
 use mathlib.Core.Path.{_≡_, refl, sym, _∙_, ap}
 use mathlib.Core.Bool.{Bool, true, false}
 use mathlib.Core.Logic.{⊎-elim}
@@ -18,6 +21,7 @@ use lib.Dec.{eqb, leb}
 use borrow.Author.Tests.{leb-false, eqb-true, eqb-false}
 use Rattle.base.specs.Pick.{pick}
 use Rattle.base.proofs.Picking.{picked}
+use Rattle.base.specs.Refusals.{asTaken}
 use Rattle.cells.specs.Sets.{memberOf, addOf, removeOf}
 use Rattle.cells.proofs.Members.{add-same, add-keeps, in-add, remove-gone, in-remove, remove-keeps}
 use Rattle.cells.proofs.Bools.{same-test}
@@ -32,7 +36,7 @@ use Rattle.buffers.specs.Buffers.{pushOf, popOf}
 use Rattle.buffers.proofs.Fifos.{push-room, push-last, pop-oldest}
 use Rattle.memory.specs.declared.Memory.{Memory}
 use Rattle.memory.specs.declared.Done.{Done}
-use Rattle.memory.specs.Memories.{maxCells, maxProcesses, asTaken, taken, refused, withUsed, withMarks, withField0, withField1, withLock, putCell, usedOf, bufferOf, withBuffer, pendingLenOf, blockedOf, thereOf, heldOf, appliedOf, allocatedOf, freedOf}
+use Rattle.memory.specs.Memories.{maxCells, maxProcesses, taken, refused, withUsed, withMarks, withField0, withField1, withLock, putCell, usedOf, bufferOf, withBuffer, pendingLenOf, blockedOf, thereOf, standsOf, appliedOf, allocatedOf, freedOf}
 use Rattle.memory.specs.Steps.{writeOf, commitOf, fenceOf, lockOf, unlockOf, allocateOf, freeOf}
 use Rattle.memory.specs.Views.{pendingFor}
 pub use Rattle.memory.specs.Effects.{Written, Committed, Fenced, Relocked, Locked, Unlocked, Reset, Allocated, Freed}
@@ -219,10 +223,11 @@ module _ {m : Memory} (p : ℕ) {n : Memory} (z : Shaped m) where
       go (o ∷ es) e ne u t q = ⊎-elim (λ l. committed o es e l u t q) (λ l. absurd (ne (pending-absent m z p l))) (there-or-not p)
 
 module _ {m : Memory} {p : ℕ} {n : Memory} (z : Shaped m) (w : Committed m p n) where
-  pub committed-held : (at : Spot) → Plain (spotOf (w .oldest .store)) → Plain at → heldOf n at ≡ pick (hitsOf at (w .oldest .store)) (w .oldest .store) (heldOf m at)
+  pub committed-held : (at : Spot) → Plain (spotOf (w .oldest .store)) → Plain at → standsOf n at ≡ pick (hitsOf at (w .oldest .store)) (w .oldest .store) (standsOf m at)
   committed-held at j i = held-same (appliedOf m (w .oldest .store)) n at (w .alike) ∙ held-applied m z (w .oldest .store) at (w .there) j i
 
--- ---- of any memory: "Allocation and freeing act on memory at once", and no other step changes which cells are occupied; no step changes N and M
+-- ---- of any memory: "Allocation and freeing act on memory at once", and no other step changes which cells are
+-- occupied; no step changes N and M
 module _ (m : Memory) (p : ℕ) {n : Memory} where
   pub write-settled : (e : Entry) → writeOf m p e ≡ taken n → Settled m n
   write-settled e h = rw (← write-went m p e h .2) (record { cells = refl; processes = refl; used = refl })

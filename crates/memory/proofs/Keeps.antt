@@ -1,8 +1,10 @@
 -- Every step keeps memory shaped. Assumes nothing.
---     write-shaped, commit-shaped, fence-shaped, lock-shaped, unlock-shaped, allocate-shaped, free-shaped     taken or refused; an allocation, of a cell within the arrays
+--     write-shaped, commit-shaped, fence-shaped, lock-shaped, unlock-shaped, allocate-shaped, free-shaped     taken
+--     or refused; an allocation, of a cell within the arrays
 --     put-length                   a cell put leaves an array its length
 --     shaped-like                  so is a memory with the same arrays and occupied cells
---     shaped-buffer, shaped-applied, shaped-lock, shaped-allocated, shaped-freed     so are the memories that the steps are made of
+--     shaped-buffer, shaped-applied, shaped-lock, shaped-allocated, shaped-freed     so are the memories that the
+--     steps are made of
 use mathlib.Core.Path.{_≡_, refl, _∙_, ap}
 use mathlib.Core.Bool.{false}
 use mathlib.Core.Logic.{⊎-elim}

@@ -2,8 +2,9 @@
 --     look-laws, read-laws, sweep-laws                                  what a look sees (specs/Sights)
 --     write-shows, commit-shows, relock-shows, reset-shows              what each process sees after a step
 --     pending-laws                                                      what can be pending (specs/Laws)
---     write-laws, commit-laws, fence-laws, lock-laws, unlock-laws, allocate-laws, free-laws     numbers, effect and refusal of each step
--- `blocked-is` and `unblocked-is` stand in Blocks, `write-again` and `allocate-again` in Again.
+--     write-laws, commit-laws, fence-laws, lock-laws, unlock-laws, allocate-laws, free-laws     numbers, effect and
+--     refusal of each step `blocked-is` and `unblocked-is` stand in Blocks, `write-again` and `allocate-again` in
+--     Again.
 use mathlib.Core.Path.{_≡_, _∙_}
 use mathlib.Core.Bool.{false}
 use mathlib.Core.List.{List, List·Memᴰ}
@@ -12,7 +13,7 @@ use Rattle.buffers.specs.declared.Entry.{Entry}
 use Rattle.buffers.specs.Stores.{spotOf, hitsOf}
 use Rattle.buffers.proofs.Hits.{hits-own, hits-is, hits-other}
 use Rattle.buffers.proofs.Newests.{newest-among, newest-none}
-use Rattle.memory.specs.Memories.{heldOf}
+use Rattle.memory.specs.Memories.{standsOf}
 use Rattle.memory.specs.Views.{pendingFor}
 use Rattle.memory.specs.Sights.{Unwritten, LookLaws, ReadLaws, SweepLaws, WriteShows, CommitShows, RelockShows, ResetShows}
 use Rattle.memory.specs.Laws.{PendingLaws, WriteLaws, CommitLaws, FenceLaws, LockLaws, UnlockLaws, AllocateLaws, FreeLaws}
@@ -33,7 +34,7 @@ look-laws m p at =
       numbers = look-no m p at;
       taken = look-taken m p at;
       refused = look-refused m p at;
-      own = λ older newer e h s f. view-is m p at ∙ rw h (newest-among at older newer e (heldOf m at) (hits-is at (e .store) .1 s) (newest-none at newer .1 (misses f)));
+      own = λ older newer e h s f. view-is m p at ∙ rw h (newest-among at older newer e (standsOf m at) (hits-is at (e .store) .1 s) (newest-none at newer .1 (misses f)));
       memory = λ f. view-misses m p at (misses f);
       spot = view-spot m p at;
     }

@@ -1,8 +1,11 @@
 -- Which number each step gives, exactly when (specs/Refusals), and what comes with it. Assumes nothing.
 --     write-no, commit-no, fence-no, lock-no, unlock-no, allocate-no, free-no                     the numbers of a step
---     write-same, commit-same, lock-same, unlock-same, allocate-same, free-same                   a refused step hands the same memory back
---     fence-same                                                                                  a fence does, taken or refused
---     write-goes, commit-goes, fence-goes, lock-goes, unlock-goes, allocate-goes, free-goes       a step that is asked right is taken
+--     write-same, commit-same, lock-same, unlock-same, allocate-same, free-same                   a refused step
+--     hands the same memory back
+--     fence-same                                                                                  a fence does, taken
+--                                                                                                 or refused
+--     write-goes, commit-goes, fence-goes, lock-goes, unlock-goes, allocate-goes, free-goes       a step that is
+--     asked right is taken
 use mathlib.Core.Path.{_≡_, refl, sym, _∙_, ap}
 use mathlib.Core.Bool.{Bool, true, false}
 use mathlib.Core.Logic.{⊎-elim}
@@ -14,6 +17,7 @@ use lib.ListN.{length}
 use borrow.Author.Tests.{leb-true, leb-false, le-leb, lt-leb, eqb-true, eqb-false, eq-eqb, ne-eqb}
 use Rattle.base.specs.Pick.{pick}
 use Rattle.base.proofs.Picking.{picked}
+use Rattle.base.specs.Refusals.{asTaken, byNoProcess, byNonePending, byBlocked, byPending, byFull, byOccupied, byFree}
 use Rattle.buffers.specs.declared.Store.{Store}
 use Rattle.buffers.specs.declared.Entry.{Entry}
 use Rattle.buffers.specs.Stores.{spotOf}
@@ -21,7 +25,7 @@ use Rattle.buffers.specs.Buffers.{maxStores, pushOf, popOf}
 use Rattle.buffers.proofs.Fifos.{push-room, push-full, pop-oldest}
 use Rattle.memory.specs.declared.Memory.{Memory}
 use Rattle.memory.specs.declared.Done.{Done}
-use Rattle.memory.specs.Memories.{maxProcesses, asTaken, byProcess, byNonePending, byBlocked, byPending, byFull, byOccupied, byFree, taken, refused, withLock, usedOf, bufferOf, withBuffer, pendingLenOf, blockedOf, thereOf, appliedOf, allocatedOf, freedOf}
+use Rattle.memory.specs.Memories.{maxProcesses, taken, refused, withLock, usedOf, bufferOf, withBuffer, pendingLenOf, blockedOf, thereOf, appliedOf, allocatedOf, freedOf}
 use Rattle.memory.specs.Steps.{writeOf, commitOf, fenceOf, lockOf, unlockOf, allocateOf, freeOf}
 use Rattle.memory.specs.Views.{pendingFor}
 use Rattle.memory.specs.Refusals.{HandsBack, WriteNumbers, CommitNumbers, FenceNumbers, LockNumbers, UnlockNumbers, AllocateNumbers, FreeNumbers}
@@ -89,8 +93,8 @@ module _ (m : Memory) (p : ℕ) where
   unfolding writeOf
   write-no e z =
       let b = pushOf (bufferOf m p) e in
-      two byProcess asTaken byFull (leb maxProcesses p) (b .taken) (λ x. omega arith) (λ x. omega arith) (λ x. omega arith)
-      (no-pick (leb maxProcesses p) (refused byProcess m) _ refl (no-pick (b .taken) (taken (withBuffer m p (b .buffer))) (refused byFull m) refl refl))
+      two byNoProcess asTaken byFull (leb maxProcesses p) (b .taken) (λ x. omega arith) (λ x. omega arith) (λ x. omega arith)
+      (no-pick (leb maxProcesses p) (refused byNoProcess m) _ refl (no-pick (b .taken) (taken (withBuffer m p (b .buffer))) (refused byFull m) refl refl))
       (process-test p)
       (λ l. rw (pending-is m p) (record { holds = push-room (bufferOf m p) e (z .sized p l); fails = push-full (bufferOf m p) e (z .sized p l) }))
 
@@ -122,7 +126,7 @@ module _ (m : Memory) (p : ℕ) where
 
   pub write-same : (e : Entry) → HandsBack m (writeOf m p e)
   unfolding writeOf
-  write-same e = picked (HandsBack m) (leb maxProcesses p) (back byProcess) (picked (HandsBack m) (pushOf (bufferOf m p) e .taken) (went _) (back byFull))
+  write-same e = picked (HandsBack m) (leb maxProcesses p) (back byNoProcess) (picked (HandsBack m) (pushOf (bufferOf m p) e .taken) (went _) (back byFull))
 
   pub commit-same : HandsBack m (commitOf m p)
   unfolding commitOf

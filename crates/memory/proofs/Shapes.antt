@@ -5,11 +5,13 @@
 --     pending-fits                 no process has more pending than fits
 --     pending-empty                nothing is pending exactly if the count is 0
 --     pending-count                as many are pending as the count says
---     view-own, view-memory, view-misses, view-empty     one sees the newest store of one's own to the spot; memory, without one
+--     view-own, view-memory, view-misses, view-empty     one sees the newest store of one's own to the spot; memory,
+--                                                        without one
 --     view-from                    what is seen is a store of one's own list, or what memory holds
 --     view-spot                    what is seen at a spot is a store to that spot
 --     held-spot                    and so is what memory holds there
---     buffer-absent, buffer-same, buffer-other     the buffer of a process that is not there; a buffer replaced is the only one that changes
+--     buffer-absent, buffer-same, buffer-other     the buffer of a process that is not there; a buffer replaced is
+--                                                  the only one that changes
 --     pending-same                 the lists are decided by the buffers
 use mathlib.Core.Path.{_≡_, refl, _∙_}
 use mathlib.Core.Bool.{false}
@@ -33,7 +35,7 @@ use Rattle.buffers.specs.Buffers.{maxStores, pendingOf, newestOf, storeOrOf}
 use Rattle.buffers.proofs.Fifos.{pending-length, pending-none}
 use Rattle.buffers.proofs.Newests.{newest-none, newest-member, newest-spot}
 use Rattle.memory.specs.declared.Memory.{Memory}
-use Rattle.memory.specs.Memories.{maxProcesses, noBuffer, bufferOf, withBuffer, pendingLenOf, heldOf}
+use Rattle.memory.specs.Memories.{maxProcesses, noBuffer, bufferOf, withBuffer, pendingLenOf, standsOf}
 use Rattle.memory.specs.Views.{pendingFor, viewOf}
 pub use Rattle.memory.specs.Shapes.{Shaped, oldestOf}
 
@@ -41,32 +43,33 @@ pub pending-is : (m : Memory) (p : ℕ) → pendingFor m p ≡ pendingOf (buffer
 unfolding pendingFor
 pending-is m p = refl
 
-pub view-is : (m : Memory) (p : ℕ) (at : Spot) → viewOf m p at ≡ storeOrOf (newestOf at (pendingFor m p)) (heldOf m at)
+pub view-is : (m : Memory) (p : ℕ) (at : Spot) → viewOf m p at ≡ storeOrOf (newestOf at (pendingFor m p)) (standsOf m at)
 unfolding pendingFor viewOf
 view-is m p at = refl
 
-pub view-memory : (m : Memory) (p : ℕ) (at : Spot) → newestOf at (pendingFor m p) ≡ Nothing → viewOf m p at ≡ heldOf m at
+pub view-memory : (m : Memory) (p : ℕ) (at : Spot) → newestOf at (pendingFor m p) ≡ Nothing → viewOf m p at ≡ standsOf m at
 view-memory m p at h = view-is m p at ∙ rw h
 
-pub view-misses : (m : Memory) (p : ℕ) (at : Spot) → ((e : Entry) → List·Memᴰ e (pendingFor m p) → hitsOf at (e .store) ≡ false) → viewOf m p at ≡ heldOf m at
+pub view-misses : (m : Memory) (p : ℕ) (at : Spot) → ((e : Entry) → List·Memᴰ e (pendingFor m p) → hitsOf at (e .store) ≡ false) → viewOf m p at ≡ standsOf m at
 view-misses m p at f = view-memory m p at (newest-none at (pendingFor m p) .1 f)
 
-pub view-empty : (m : Memory) (p : ℕ) (at : Spot) → pendingFor m p ≡ [] → viewOf m p at ≡ heldOf m at
+pub view-empty : (m : Memory) (p : ℕ) (at : Spot) → pendingFor m p ≡ [] → viewOf m p at ≡ standsOf m at
 view-empty m p at h = view-memory m p at (rw h refl)
 
 pub view-own : (m : Memory) (p : ℕ) (at : Spot) (s : Store) → newestOf at (pendingFor m p) ≡ Hit s → viewOf m p at ≡ s
 view-own m p at s h = view-is m p at ∙ rw h
 
--- "A read gives the newest matching store of the reader's own buffer, else memory": what holds of both holds of what is seen
-pub view-from : (P : Store → Type 0) (m : Memory) (p : ℕ) (at : Spot) → ((e : Entry) → List·Memᴰ e (pendingFor m p) → P (e .store)) → P (heldOf m at) → P (viewOf m p at)
+-- "A read gives the newest matching store of the reader's own buffer, else memory": what holds of both holds of what
+-- is seen
+pub view-from : (P : Store → Type 0) (m : Memory) (p : ℕ) (at : Spot) → ((e : Entry) → List·Memᴰ e (pendingFor m p) → P (e .store)) → P (standsOf m at) → P (viewOf m p at)
 view-from P m p at own else = rw (view-is m p at) (go (newestOf at (pendingFor m p)) refl)
   where
-    go : (n : Newest) → newestOf at (pendingFor m p) ≡ n → P (storeOrOf n (heldOf m at))
+    go : (n : Newest) → newestOf at (pendingFor m p) ≡ n → P (storeOrOf n (standsOf m at))
     go Nothing e = else
     go (Hit s) e = let w = newest-member at (pendingFor m p) s e in rw (← w .holds) (own (w .entry) (w .there))
 
-pub held-spot : (m : Memory) (at : Spot) → spotOf (heldOf m at) ≡ at
-unfolding heldOf
+pub held-spot : (m : Memory) (at : Spot) → spotOf (standsOf m at) ≡ at
+unfolding standsOf
 held-spot m (spot.Mark c) = refl
 held-spot m (spot.Field c f) = refl
 held-spot m spot.Sense = refl
@@ -74,7 +77,7 @@ held-spot m spot.AllocSense = refl
 held-spot m spot.Phase = refl
 
 pub view-spot : (m : Memory) (p : ℕ) (at : Spot) → spotOf (viewOf m p at) ≡ at
-view-spot m p at = rw (view-is m p at) (newest-spot at (pendingFor m p) (heldOf m at) (held-spot m at))
+view-spot m p at = rw (view-is m p at) (newest-spot at (pendingFor m p) (standsOf m at) (held-spot m at))
 
 -- a process is one of those there can be, or it is not
 pub there-or-not : (p : ℕ) → (p < maxProcesses) ⊎ (maxProcesses ≤ p)

@@ -1,21 +1,30 @@
--- Which number each look gives, exactly when, and what it sees. One and Two read in the order of the tests (specs/Numbers). Assumes nothing.
+-- Which number each look gives, exactly when, and what it sees. One and Two read in the order of the tests
+-- (specs/Numbers). Assumes nothing.
 --     look-no, look-mark-no, look-field-no, look-sense-no, look-phase-no, look-swept-no           the numbers of a look
---     look-taken, look-mark-taken, look-field-taken, look-sense-taken, look-phase-taken           a look that is taken sees the view
---     look-refused                                                                                one that is refused sees the empty store
+--     look-taken, look-mark-taken, look-field-taken, look-sense-taken, look-phase-taken           a look that is
+--     taken sees the view
+--     look-refused                                                                                one that is refused
+--                                                                                                 sees the empty
+--                                                                                                 store
 --     look-mark-is, look-field-is, look-sense-is, look-phase-is, look-swept-is                    each by the one look
 --     swept-blocked, swept-used, swept-free                                                       the sweep's look
---     look-same                                                                                   a look is decided by the lock, by whether the spot is there, and by the view
+--     look-same                                                                                   a look is decided
+--                                                                                                 by the lock, by
+--                                                                                                 whether the spot is
+--                                                                                                 there, and by the
+--                                                                                                 view
 use mathlib.Core.Path.{_≡_, refl, ap}
 use mathlib.Core.Bool.{Bool, true, false}
 use Prim.Native.Nat.{ℕ}
 use native.Mathlib.Omega.{arith}
 use Rattle.base.specs.Pick.{pick}
+use Rattle.base.specs.Refusals.{asTaken, byBlocked, byFree}
 use Rattle.buffers.specs.declared.Spot.{Spot}
 use Rattle.buffers.specs.declared.Spot.the-variants as spot
 use Rattle.buffers.specs.Stores.{bitOf, valueOf, phaseOf}
 use Rattle.memory.specs.declared.Memory.{Memory}
 use Rattle.memory.specs.declared.Seen.{Seen}
-use Rattle.memory.specs.Memories.{asTaken, byBlocked, byFree, unseen, usedOf, blockedOf, thereOf}
+use Rattle.memory.specs.Memories.{unseen, usedOf, blockedOf, thereOf}
 use Rattle.memory.specs.Looks.{seenOf, lookOf, seenBit, seenValue, seenPhase, lookMarkOf, lookFieldOf, lookSenseOf, lookPhaseOf, sweptOf, lookSweptOf}
 use Rattle.memory.specs.Views.{viewOf}
 use Rattle.memory.specs.Refusals.{LookNumbers}

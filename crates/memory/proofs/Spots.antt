@@ -1,11 +1,15 @@
--- What memory holds, spot by spot: where a spot is there, and what a store, an allocation and a free do to it. Assumes nothing.
---     there-mark, there-field, there-sense, there-alloc-sense, there-phase     a spot of a cell is there while the cell is occupied, any other always
+-- What memory holds, spot by spot: where a spot is there, and what a store, an allocation and a free do to it.
+-- Assumes nothing.
+--     there-mark, there-field, there-sense, there-alloc-sense, there-phase     a spot of a cell is there while the
+--     cell is occupied, any other always
 --     there-used                          so where a spot is there is decided by the occupied cells
---     held-mark, held-field, held-sense, held-alloc-sense, held-phase          memory's parts as what it holds at a spot
+--     held-mark, held-field, held-sense, held-alloc-sense, held-phase          memory's parts as what it holds at a
+--     spot
 --     held-same, field-same               marks, fields, senses and phase are the same, so the same is held everywhere
 --     held-applied                        a store applied is held at its own spot, and every other spot is as before
 --     applied-field                       so each field is as before, or has the value stored
---     applied-settled, applied-lock, applied-buffers     a store changes neither the occupied cells nor the counts, the lock and the buffers
+--     applied-settled, applied-lock, applied-buffers     a store changes neither the occupied cells nor the counts,
+--                                                        the lock and the buffers
 --     cell-same, cell-other, cell-put, cell-either     one cell of an array is put
 use mathlib.Core.Path.{_≡_, refl, sym, _∙_, ap}
 use mathlib.Core.Bool.{Bool, true, false}
@@ -29,7 +33,7 @@ use Rattle.buffers.specs.declared.Spot.{Spot}
 use Rattle.buffers.specs.declared.Spot.the-variants as spot
 use Rattle.buffers.specs.Stores.{spotOf, hitsOf, valueOf}
 use Rattle.memory.specs.declared.Memory.{Memory}
-use Rattle.memory.specs.Memories.{maxCells, atCell, putCell, usedOf, markOf, fieldOf, putFieldOf, thereOf, heldOf, appliedOf}
+use Rattle.memory.specs.Memories.{maxCells, atCell, putCell, usedOf, markOf, fieldOf, putFieldOf, thereOf, standsOf, appliedOf}
 pub use Rattle.memory.specs.Shapes.{lastField, Plain}
 pub use Rattle.memory.specs.Effects.{Alike, Settled}
 use Rattle.memory.proofs.Shapes.{Shaped}
@@ -99,28 +103,28 @@ there-used m n spot.Phase e = refl
 
 -- ---- what is held
 module _ (m : Memory) where
-  pub held-mark : (c : ℕ) → heldOf m (spot.Mark c) ≡ store.Mark c (markOf m c)
-  unfolding heldOf
+  pub held-mark : (c : ℕ) → standsOf m (spot.Mark c) ≡ store.Mark c (markOf m c)
+  unfolding standsOf
   held-mark c = refl
 
-  pub held-field : (c f : ℕ) → heldOf m (spot.Field c f) ≡ store.Field c f (fieldOf m c f)
-  unfolding heldOf
+  pub held-field : (c f : ℕ) → standsOf m (spot.Field c f) ≡ store.Field c f (fieldOf m c f)
+  unfolding standsOf
   held-field c f = refl
 
-  pub held-sense : heldOf m spot.Sense ≡ store.Sense (m .fm)
-  unfolding heldOf
+  pub held-sense : standsOf m spot.Sense ≡ store.Sense (m .fm)
+  unfolding standsOf
   held-sense = refl
 
-  pub held-alloc-sense : heldOf m spot.AllocSense ≡ store.AllocSense (m .fa)
-  unfolding heldOf
+  pub held-alloc-sense : standsOf m spot.AllocSense ≡ store.AllocSense (m .fa)
+  unfolding standsOf
   held-alloc-sense = refl
 
-  pub held-phase : heldOf m spot.Phase ≡ store.Phase (m .phase .phase)
-  unfolding heldOf
+  pub held-phase : standsOf m spot.Phase ≡ store.Phase (m .phase .phase)
+  unfolding standsOf
   held-phase = refl
 
-pub held-same : (m n : Memory) (at : Spot) → Alike m n → heldOf n at ≡ heldOf m at
-unfolding heldOf
+pub held-same : (m n : Memory) (at : Spot) → Alike m n → standsOf n at ≡ standsOf m at
+unfolding standsOf
 held-same m n (spot.Mark c) k = rw (k .marks)
 held-same m n (spot.Field c f) k = rw (k .field0, k .field1)
 held-same m n spot.Sense k = rw (k .fm)
@@ -185,8 +189,8 @@ pick-never true x y = refl
 pick-never false x y = refl
 
 module _ (m : Memory) (z : Shaped m) where
-  mark-applied : (c : ℕ) (b : Bool) (d : ℕ) → 0 < c → c ≤ maxCells → heldOf (appliedOf m (store.Mark c b)) (spot.Mark d) ≡ pick (hitsOf (spot.Mark d) (store.Mark c b)) (store.Mark c b) (heldOf m (spot.Mark d))
-  unfolding heldOf appliedOf hitsOf
+  mark-applied : (c : ℕ) (b : Bool) (d : ℕ) → 0 < c → c ≤ maxCells → standsOf (appliedOf m (store.Mark c b)) (spot.Mark d) ≡ pick (hitsOf (spot.Mark d) (store.Mark c b)) (store.Mark c b) (standsOf m (spot.Mark d))
+  unfolding standsOf appliedOf hitsOf
   mark-applied c b d p h = go (ℕ-discrete c d)
     where
       go : Dec (c ≡ d) → store.Mark d (atCell (putCell (m .marks) c b) d false) ≡ pick (pick (eqb c d) true false) (store.Mark c b) (store.Mark d (markOf m d))
@@ -202,8 +206,8 @@ module _ (m : Memory) (z : Shaped m) where
       go (inr a) (inl b) = rw (a, b) (sym (pick-never (eqb c d) v (atCell (m .field0) d 0)))
       go (inr a) (inr b) = rw (a, b) (cell-put (m .field1) 0 v c d p (omega (arith, z .field1)) ∙ sym (pick-pick (eqb c d) v (atCell (m .field1) d 0)))
 
-  field-applied : (c f v d g : ℕ) → 0 < c → c ≤ maxCells → f ≤ lastField → g ≤ lastField → heldOf (appliedOf m (store.Field c f v)) (spot.Field d g) ≡ pick (hitsOf (spot.Field d g) (store.Field c f v)) (store.Field c f v) (heldOf m (spot.Field d g))
-  unfolding heldOf appliedOf hitsOf
+  field-applied : (c f v d g : ℕ) → 0 < c → c ≤ maxCells → f ≤ lastField → g ≤ lastField → standsOf (appliedOf m (store.Field c f v)) (spot.Field d g) ≡ pick (hitsOf (spot.Field d g) (store.Field c f v)) (store.Field c f v) (standsOf m (spot.Field d g))
+  unfolding standsOf appliedOf hitsOf
   field-applied c f v d g p h j i = go (eqb c d and eqb f g) refl
     where
       go : (t : Bool) → eqb c d and eqb f g ≡ t → store.Field d g (fieldOf (putFieldOf m c f v) d g) ≡ pick (eqb c d and eqb f g) (store.Field c f v) (store.Field d g (fieldOf m d g))
@@ -214,8 +218,8 @@ module _ (m : Memory) (z : Shaped m) where
           rw (field-put c f v d g p h j i, e, x, y)
       go false e = rw (field-put c f v d g p h j i, e)
 
-  pub held-applied : (s : Store) (at : Spot) → thereOf m (spotOf s) ≡ true → Plain (spotOf s) → Plain at → heldOf (appliedOf m s) at ≡ pick (hitsOf at s) s (heldOf m at)
-  unfolding thereOf heldOf appliedOf hitsOf
+  pub held-applied : (s : Store) (at : Spot) → thereOf m (spotOf s) ≡ true → Plain (spotOf s) → Plain at → standsOf (appliedOf m s) at ≡ pick (hitsOf at s) s (standsOf m at)
+  unfolding thereOf standsOf appliedOf hitsOf
   held-applied (store.Mark c b) (spot.Mark d) h j i = mark-applied c b d (member-pos (m .used) c h) (z .within c h)
   held-applied (store.Mark c b) (spot.Field d g) h j i = refl
   held-applied (store.Mark c b) spot.Sense h j i = refl

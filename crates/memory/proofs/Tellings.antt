@@ -5,6 +5,7 @@
 use mathlib.Core.Path.{_≡_, refl, sym, ap}
 use mathlib.Core.Bool.{Bool, false, false≢true}
 use Prim.Native.Nat.{ℕ}
+use Rattle.base.specs.Refusals.{asTaken}
 use Rattle.buffers.specs.declared.Phase.{Phase}
 use Rattle.buffers.specs.declared.Spot.the-variants as spot
 use Rattle.buffers.specs.Stores.{bitOf, valueOf, phaseOf}
@@ -15,7 +16,7 @@ use Rattle.memory.specs.declared.SeenPhase.{SeenPhase}
 use Rattle.memory.specs.declared.asks.Ask.{Ask}
 use Rattle.memory.specs.declared.asks.Ask.the-variants as ask
 use Rattle.memory.specs.declared.asks.Sight.{Sight}
-use Rattle.memory.specs.Memories.{asTaken, taken}
+use Rattle.memory.specs.Memories.{taken}
 use Rattle.memory.specs.Looks.{lookMarkOf, lookFieldOf, lookSenseOf, lookPhaseOf}
 use Rattle.memory.specs.Asks.{Told, lookedOf, sightOf, changes, madeOf, toldOf}
 

@@ -1,6 +1,8 @@
--- What a step asks of memory, and memory's answer in one place: the number, with what was seen or with memory after it. Assumes nothing.
+-- What a step asks of memory, and memory's answer in one place: the number, with what was seen or with memory after
+-- it. Assumes nothing.
 use mathlib.Core.Bool.{Bool, true, false}
 use Prim.Native.Nat.{ℕ}
+use Rattle.base.specs.Refusals.{asTaken}
 use Rattle.buffers.specs.declared.Store.the-variants as store
 use Rattle.buffers.specs.declared.Spot.{Spot}
 use Rattle.buffers.specs.Stores.{noStore}
@@ -11,7 +13,7 @@ use Rattle.memory.specs.declared.asks.Change.the-variants as change
 use Rattle.memory.specs.declared.asks.Ask.{Ask}
 use Rattle.memory.specs.declared.asks.Ask.the-variants as ask
 use Rattle.memory.specs.declared.asks.Sight.{Sight}
-use Rattle.memory.specs.Memories.{asTaken, taken}
+use Rattle.memory.specs.Memories.{taken}
 use Rattle.memory.specs.Looks.{lookOf, lookSweptOf}
 use Rattle.memory.specs.Steps.{writeOf, commitOf, fenceOf, lockOf, unlockOf, allocateOf, freeOf}
 
@@ -19,7 +21,8 @@ use Rattle.memory.specs.Steps.{writeOf, commitOf, fenceOf, lockOf, unloc
 abbrev pub blind : ℕ → Sight
 blind n = record { no = n; used = false; store = noStore }
 
--- "A read gives the newest matching store of the reader's own buffer, else memory"; the sweep's look finds a free cell too
+-- "A read gives the newest matching store of the reader's own buffer, else memory"; the sweep's look finds a free
+-- cell too
 unfoldable pub lookedOf : Memory → ℕ → Spot → Sight
 lookedOf m p at = let l = lookOf m p at in record { no = l .no; used = false; store = l .store }
 

@@ -1,4 +1,5 @@
--- What a step that is taken asks, what it changes, and what stays: a record for each, over the memory m before it and the memory n after it. Assumes nothing.
+-- What a step that is taken asks, what it changes, and what stays: a record for each, over the memory m before it and
+-- the memory n after it. Assumes nothing.
 use mathlib.Core.Path.{_≡_}
 use mathlib.Core.Bool.{Bool, true, false}
 use mathlib.Core.List.{List, [], _∷_, _++_}
@@ -89,7 +90,8 @@ pub record Reset (m : Memory) (c : ℕ) (u b : Bool) (n : Memory) : Type 0 where
   pub processes : n .processes ≡ m .processes
   pub pending : (q : ℕ) → pendingFor n q ≡ pendingFor m q
 
--- "Allocation and freeing act on memory at once, unblocked": "allocate free cell x (mark = memory's fA, null fields ..)"
+-- "Allocation and freeing act on memory at once, unblocked": "allocate free cell x (mark = memory's fA, null fields
+-- ..)"
 pub record Allocated (m : Memory) (p c : ℕ) (n : Memory) : Type 0 where
   pub unblocked : blockedOf m p ≡ false
   pub free : usedOf m c ≡ false

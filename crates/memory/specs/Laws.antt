@@ -1,5 +1,6 @@
--- What memory promises of each step that can change it: its numbers (Refusals), the effect of a taken one and what it leaves alone (Effects),
--- that a refused one hands the same memory back, and that memory keeps its shape. Statements, proved in proofs/Laws. Assumes nothing.
+-- What memory promises of each step that can change it: its numbers (Refusals), the effect of a taken one and what it
+-- leaves alone (Effects), that a refused one hands the same memory back, and that memory keeps its shape. Statements,
+-- proved in proofs/Laws. Assumes nothing.
 use mathlib.Core.Path.{_≡_}
 use mathlib.Core.Bool.{true, false}
 use mathlib.Core.Logic.{_↔_, _⊎_}

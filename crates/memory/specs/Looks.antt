@@ -1,8 +1,10 @@
--- "A read gives the newest matching store of the reader's own buffer, else memory, and needs the reader unblocked." Assumes nothing.
+-- "A read gives the newest matching store of the reader's own buffer, else memory, and needs the reader unblocked."
+-- Assumes nothing.
 use mathlib.Core.Bool.{false}
 use Prim.Native.Nat.{ℕ}
 use lib.Dec.{eqb}
 use Rattle.base.specs.Pick.{pick}
+use Rattle.base.specs.Refusals.{asTaken, byBlocked, byFree}
 use Rattle.buffers.specs.declared.Store.{Store}
 use Rattle.buffers.specs.declared.Spot.{Spot}
 use Rattle.buffers.specs.declared.Spot.the-variants as spot
@@ -15,7 +17,7 @@ use Rattle.memory.specs.declared.SeenBit.{SeenBit}
 use Rattle.memory.specs.declared.SeenValue.{SeenValue}
 use Rattle.memory.specs.declared.SeenPhase.{SeenPhase}
 use Rattle.memory.specs.declared.Swept.{Swept}
-use Rattle.memory.specs.Memories.{asTaken, byBlocked, byFree, unseen, bufferOf, blockedOf, thereOf, heldOf}
+use Rattle.memory.specs.Memories.{unseen, bufferOf, blockedOf, thereOf, standsOf}
 
 -- "the newest matching store of the reader's own buffer"
 abbrev pub ownNewestOf : Memory → ℕ → Spot → Newest
@@ -23,7 +25,7 @@ ownNewestOf m p at = newestOf at (pendingOf (bufferOf m p))
 
 -- ".. else memory"
 abbrev pub seenOf : Memory → ℕ → Spot → Store
-seenOf m p at = storeOrOf (ownNewestOf m p at) (heldOf m at)
+seenOf m p at = storeOrOf (ownNewestOf m p at) (standsOf m at)
 
 -- ".. and needs the reader unblocked"; "a look, field read, .. on a free cell" is refused
 unfoldable pub lookOf : Memory → ℕ → Spot → Seen
@@ -57,7 +59,8 @@ lookSenseOf m p = seenBit (lookOf m p spot.Sense)
 unfoldable pub lookPhaseOf : Memory → ℕ → SeenPhase
 lookPhaseOf m p = seenPhase (lookOf m p spot.Phase)
 
--- "the sweep's look excepted": a look at a mark that is not refused for a free cell, and tells whether the cell is occupied
+-- "the sweep's look excepted": a look at a mark that is not refused for a free cell, and tells whether the cell is
+-- occupied
 abbrev pub sweptOf : SeenBit → Swept
 sweptOf s =
     pick (eqb (s .no) byFree)

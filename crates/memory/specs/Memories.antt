@@ -1,10 +1,12 @@
--- Memory's parts: limits, the numbers of refusals, setters, and what stands at a spot, as functions of the whole memory. Assumes nothing.
+-- Memory's parts: limits, the numbers of refusals, setters, and what stands at a spot, as functions of the whole
+-- memory. Assumes nothing.
 use mathlib.Core.Bool.{Bool, true, false, not}
 use Prim.Native.Nat.{ℕ, _+_, _-_}
 use mathlib.Core.List.{List, []}
 use lib.Dec.{eqb}
 use lib.ListN.{getD, set}
 use Rattle.base.specs.Pick.{pick}
+use Rattle.base.specs.Refusals.{asTaken}
 use Rattle.cells.specs.Sets.{memberOf, addOf, removeOf}
 use Rattle.buffers.specs.declared.Phase.{Phase}
 use Rattle.buffers.specs.declared.Store.{Store}
@@ -26,38 +28,6 @@ maxMutators = 4
 
 abbrev pub maxProcesses : ℕ
 maxProcesses = maxMutators + 1
-
--- "When the judge says no": the numbers that memory gives, 0 for a step that is taken
-abbrev pub asTaken : ℕ
-asTaken = 0
-
--- "the process is above M": here, above the most there can be
-abbrev pub byProcess : ℕ
-byProcess = 2
-
--- "a commit with an empty buffer"
-abbrev pub byNonePending : ℕ
-byNonePending = 5
-
--- "a memory or own-buffer read, commit, allocation or free while blocked; a lock step while any process holds the lock"
-abbrev pub byBlocked : ℕ
-byBlocked = 7
-
--- "fence or unlock, own buffer not empty"
-abbrev pub byPending : ℕ
-byPending = 8
-
--- "a write, 8 stores pending"
-abbrev pub byFull : ℕ
-byFull = 9
-
--- "allocation of an occupied cell"
-abbrev pub byOccupied : ℕ
-byOccupied = 10
-
--- "a look, field read, or commit of a mark or field on a free cell"
-abbrev pub byFree : ℕ
-byFree = 11
 
 -- answers; a refused look sees the empty store
 abbrev pub taken : Memory → Done
@@ -97,7 +67,8 @@ withLock m k = record { cells = m .cells; processes = m .processes; used = m .us
 abbrev pub withBuffers : Memory → List Buffer → Memory
 withBuffers m bs = record { cells = m .cells; processes = m .processes; used = m .used; marks = m .marks; field0 = m .field0; field1 = m .field1; fm = m .fm; fa = m .fa; phase = m .phase; lock = m .lock; buffers = bs }
 
--- ---- cells by number: cell c stands at c - 1 of each array. For null, and for a number past the end, nothing is read and nothing is changed.
+-- ---- cells by number: cell c stands at c - 1 of each array. For null, and for a number past the end, nothing is
+-- read and nothing is changed.
 abbrev pub atCell : {A : Type 0} → List A → ℕ → A → A
 atCell l c zero = pick (eqb c 0) zero (getD l (c - 1) zero)
 
@@ -150,12 +121,12 @@ thereOf m spot.AllocSense = true
 thereOf m spot.Phase = true
 
 -- what memory holds at the spot, said as the store that would write it
-unfoldable pub heldOf : Memory → Spot → Store
-heldOf m (spot.Mark c) = store.Mark c (markOf m c)
-heldOf m (spot.Field c f) = store.Field c f (fieldOf m c f)
-heldOf m spot.Sense = store.Sense (m .fm)
-heldOf m spot.AllocSense = store.AllocSense (m .fa)
-heldOf m spot.Phase = store.Phase (m .phase .phase)
+unfoldable pub standsOf : Memory → Spot → Store
+standsOf m (spot.Mark c) = store.Mark c (markOf m c)
+standsOf m (spot.Field c f) = store.Field c f (fieldOf m c f)
+standsOf m spot.Sense = store.Sense (m .fm)
+standsOf m spot.AllocSense = store.AllocSense (m .fa)
+standsOf m spot.Phase = store.Phase (m .phase .phase)
 
 -- memory with the store applied
 unfoldable pub appliedOf : Memory → Store → Memory

@@ -1,4 +1,5 @@
--- "Checks run in number order": the numbers that a chain of tests gives, each with what it is given for, exactly then, and no other number. Assumes nothing.
+-- "Checks run in number order": the numbers that a chain of tests gives, each with what it is given for, exactly
+-- then, and no other number. Assumes nothing.
 use mathlib.Core.Path.{_≡_}
 use mathlib.Core.Logic.{_↔_, _⊎_}
 use Prim.Native.Nat.{ℕ}

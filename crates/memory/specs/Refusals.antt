@@ -1,17 +1,19 @@
--- "When the judge says no", as far as memory goes: the number of each look and each step, exactly when it is given. "Checks run in number order": One, Two and Three read so (Numbers).
+-- "When the judge says no", as far as memory goes: the number of each look and each step, exactly when it is given.
+-- "Checks run in number order": One, Two and Three read so (Numbers).
 -- Assumes nothing.
 use mathlib.Core.Path.{_≡_}
 use mathlib.Core.Bool.{true, false}
 use mathlib.Core.List.{[]}
 use Prim.Native.Nat.{ℕ, _≤_, _<_}
 use lib.ListN.{length}
+use Rattle.base.specs.Refusals.{asTaken, byNoProcess, byNonePending, byBlocked, byPending, byFull, byOccupied, byFree}
 use Rattle.buffers.specs.declared.Spot.{Spot}
 use Rattle.buffers.specs.declared.Entry.{Entry}
 use Rattle.buffers.specs.Stores.{spotOf}
 use Rattle.buffers.specs.Buffers.{maxStores}
 use Rattle.memory.specs.declared.Memory.{Memory}
 use Rattle.memory.specs.declared.Done.{Done}
-use Rattle.memory.specs.Memories.{maxProcesses, asTaken, byProcess, byNonePending, byBlocked, byPending, byFull, byOccupied, byFree, usedOf, blockedOf, thereOf}
+use Rattle.memory.specs.Memories.{maxProcesses, usedOf, blockedOf, thereOf}
 use Rattle.memory.specs.Looks.{lookOf}
 use Rattle.memory.specs.Steps.{writeOf, commitOf, fenceOf, lockOf, unlockOf, allocateOf, freeOf}
 use Rattle.memory.specs.Views.{pendingFor}
@@ -32,11 +34,12 @@ LookNumbers m p at =
 -- 2: "the process is above M", here above the most there can be. 9: "a write, 8 stores pending"
 abbrev pub WriteNumbers : Memory → ℕ → Entry → Type 0
 WriteNumbers m p e =
-    Two (writeOf m p e .no) byProcess asTaken byFull
+    Two (writeOf m p e .no) byNoProcess asTaken byFull
     (maxProcesses ≤ p) (p < maxProcesses)
     (length (pendingFor m p) < maxStores) (length (pendingFor m p) ≡ maxStores)
 
--- 5: "a commit with an empty buffer". 7: "a .. commit .. while blocked". 11: "a .. commit of a mark or field on a free cell"
+-- 5: "a commit with an empty buffer". 7: "a .. commit .. while blocked". 11: "a .. commit of a mark or field on a
+--    free cell"
 abbrev pub CommitNumbers : Memory → ℕ → Type 0
 CommitNumbers m p =
     Three (commitOf m p .no) byNonePending byBlocked asTaken byFree

@@ -1,16 +1,18 @@
--- What a look sees, and what each process sees after each step that is taken: statements, proved in proofs/Laws. Assumes nothing.
+-- What a look sees, and what each process sees after each step that is taken: statements, proved in proofs/Laws.
+-- Assumes nothing.
 -- A look hands no memory back, so it changes nothing.
 use mathlib.Core.Path.{_≡_}
 use mathlib.Core.Bool.{Bool, true, false}
 use mathlib.Core.List.{List, _∷_, _++_, List·Memᴰ}
 use Prim.Native.Nat.{ℕ}
+use Rattle.base.specs.Refusals.{asTaken, byBlocked}
 use Rattle.buffers.specs.declared.Store.the-variants as store
 use Rattle.buffers.specs.declared.Spot.{Spot}
 use Rattle.buffers.specs.declared.Spot.the-variants as spot
 use Rattle.buffers.specs.declared.Entry.{Entry}
 use Rattle.buffers.specs.Stores.{spotOf, spotCellOf, bitOf}
 use Rattle.memory.specs.declared.Memory.{Memory}
-use Rattle.memory.specs.Memories.{asTaken, byBlocked, unseen, usedOf, blockedOf, thereOf, heldOf}
+use Rattle.memory.specs.Memories.{unseen, usedOf, blockedOf, thereOf, standsOf}
 use Rattle.memory.specs.Looks.{lookOf, seenBit, seenValue, seenPhase, lookMarkOf, lookFieldOf, lookSenseOf, lookPhaseOf, lookSweptOf}
 use Rattle.memory.specs.Views.{pendingFor, viewOf}
 use Rattle.memory.specs.Shapes.{Shaped, Plain}
@@ -32,7 +34,7 @@ pub record LookLaw (m : Memory) (p : ℕ) (at : Spot) : Type 0 where
       (older newer : List Entry) (e : Entry) → pendingFor m p ≡ older ++ (e ∷ newer) → spotOf (e .store) ≡ at → Unwritten at newer
       → viewOf m p at ≡ e .store
   -- "else memory": none matches
-  pub memory : Unwritten at (pendingFor m p) → viewOf m p at ≡ heldOf m at
+  pub memory : Unwritten at (pendingFor m p) → viewOf m p at ≡ standsOf m at
   -- what is seen at a spot is a store to that spot
   pub spot : spotOf (viewOf m p at) ≡ at
 
@@ -70,8 +72,8 @@ WriteShows = (m : Memory) (p : ℕ) (e : Entry) (n : Memory) → Written m p e n
 -- memory holds a committed store at its spot and all else as before; the committer sees no change,
 -- and another sees one at that spot alone, the store itself if it has none of its own to it
 pub record CommitSeen (m : Memory) (p : ℕ) (n : Memory) (w : Committed m p n) : Type 0 where
-  pub held : heldOf n (spotOf (w .oldest .store)) ≡ w .oldest .store
-  pub elsewhere : (at : Spot) → Plain at → (spotOf (w .oldest .store) ≡ at → ⊥) → heldOf n at ≡ heldOf m at
+  pub held : standsOf n (spotOf (w .oldest .store)) ≡ w .oldest .store
+  pub elsewhere : (at : Spot) → Plain at → (spotOf (w .oldest .store) ≡ at → ⊥) → standsOf n at ≡ standsOf m at
   pub own : (at : Spot) → Plain at → viewOf n p at ≡ viewOf m p at
   pub others : (q : ℕ) (at : Spot) → Plain at → (spotOf (w .oldest .store) ≡ at → ⊥) → (q ≡ p → ⊥) → viewOf n q at ≡ viewOf m q at
   pub shows : (q : ℕ) → Unwritten (spotOf (w .oldest .store)) (pendingFor m q) → (q ≡ p → ⊥) → viewOf n q (spotOf (w .oldest .store)) ≡ w .oldest .store
@@ -85,8 +87,8 @@ RelockShows = (m : Memory) (k : ℕ) (n : Memory) → Relocked m k n → (q : �
 
 -- an allocation and a free are held at the spots of their cell, and are seen at no other
 pub record ResetSeen (m : Memory) (c : ℕ) (b : Bool) (n : Memory) : Type 0 where
-  pub mark : heldOf n (spot.Mark c) ≡ store.Mark c b
-  pub field : (f : ℕ) → heldOf n (spot.Field c f) ≡ store.Field c f 0
+  pub mark : standsOf n (spot.Mark c) ≡ store.Mark c b
+  pub field : (f : ℕ) → standsOf n (spot.Field c f) ≡ store.Field c f 0
   pub there : (at : Spot) → (spotCellOf at ≡ c → ⊥) → thereOf n at ≡ thereOf m at
   pub elsewhere : (q : ℕ) (at : Spot) → (spotCellOf at ≡ c → ⊥) → viewOf n q at ≡ viewOf m q at
 

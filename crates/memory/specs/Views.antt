@@ -13,6 +13,7 @@ use Rattle.memory.specs.Looks.{seenOf}
 unfoldable pub pendingFor : Memory → ℕ → List Entry
 pendingFor m p = pendingOf (bufferOf m p)
 
--- "the newest matching store of the reader's own buffer, else memory": what the process sees at the spot, whether or not a read is taken
+-- "the newest matching store of the reader's own buffer, else memory": what the process sees at the spot, whether or
+-- not a read is taken
 unfoldable pub viewOf : Memory → ℕ → Spot → Store
 viewOf m p at = seenOf m p at

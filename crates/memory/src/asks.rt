@@ -1,6 +1,7 @@
 // What a step asks of memory, and memory's answer in one place: the number, with what was seen or with memory after it.
 use super::Done;
 use super::Memory;
+use base::Refusal;
 use buffers::Entry;
 use buffers::Spot;
 use buffers::Store;
@@ -44,7 +45,8 @@ impl Ask {
     }
 }
 
-// What an ask that changes nothing is told: the number, 0 for taken; what was seen, said as the store that would write it; whether the sweep's cell is occupied.
+// What an ask that changes nothing is told: the number, 0 for taken; what was seen, said as the store that would
+// write it; whether the sweep's cell is occupied.
 pub struct Sight {
     pub no: u8,
     pub used: bool,
@@ -99,14 +101,14 @@ impl Memory {
         ensures { λ r. ⌜ r ≡ sightOf self p ask ⌝ }
     {
         match ask {
-            Ask::Nothing => Sight::blind(Memory::TAKEN),
+            Ask::Nothing => Sight::blind(Refusal::TAKEN),
             Ask::Look(at) => self.looked(p, at),
             Ask::Sweep(x) => self.swept(p, x),
             Ask::Fence => {
                 let k = self.fence(p);
                 Sight::blind(k.no)
             }
-            Ask::Make(change) => Sight::blind(Memory::TAKEN),
+            Ask::Make(change) => Sight::blind(Refusal::TAKEN),
         }
     }
 

@@ -1,12 +1,13 @@
 // The cells by number, each with its mark and two fields: reading them, storing to them, allocating and freeing.
 use super::Done;
 use super::Memory;
-use super::Standing;
+use super::PhaseWord;
+use base::Refusal;
 use buffers::Spot;
 use buffers::Store;
 ghost use mathlib.Core.Path.{_≡_};
 ghost use mathlib.Core.Bool.{false};
-ghost use Rattle.memory.specs.Memories.{atCell, putCell, usedOf, markOf, fieldOf, putMarkOf, putFieldOf, thereOf, heldOf, appliedOf, allocatedOf, freedOf};
+ghost use Rattle.memory.specs.Memories.{atCell, putCell, usedOf, markOf, fieldOf, putMarkOf, putFieldOf, thereOf, standsOf, appliedOf, allocatedOf, freedOf};
 ghost use Rattle.memory.specs.Steps.{allocateOf, freeOf};
 
 // What stands in the array for the cell c: zero for null and for a number past the end.
@@ -131,8 +132,8 @@ impl Memory {
     }
 
     // What memory holds at the spot, said as the store that would write it.
-    pub fn held(self, at: Spot) -> Store
-        ensures { λ r. ⌜ r ≡ heldOf self at ⌝ }
+    pub fn stands(self, at: Spot) -> Store
+        ensures { λ r. ⌜ r ≡ standsOf self at ⌝ }
     {
         match at {
             Spot::Mark(cell) => Store::Mark {
@@ -170,7 +171,7 @@ impl Memory {
                 self
             }
             Store::Phase(phase) => {
-                let standing = Standing { phase };
+                let standing = PhaseWord { phase };
                 self.phase = standing;
                 self
             }
@@ -202,10 +203,10 @@ impl Memory {
         ensures { λ r. ⌜ r ≡ allocateOf self p c ⌝ }
     {
         if self.blocked(p) {
-            return self.refused(Memory::BLOCKED);
+            return self.refused(Refusal::BLOCKED);
         }
         if self.is_used(c) {
-            return self.refused(Memory::OCCUPIED);
+            return self.refused(Refusal::OCCUPIED);
         }
         let memory = self.with_cell(c);
         memory.taken()
@@ -215,7 +216,7 @@ impl Memory {
         ensures { λ r. ⌜ r ≡ freeOf self p c ⌝ }
     {
         if self.blocked(p) {
-            return self.refused(Memory::BLOCKED);
+            return self.refused(Refusal::BLOCKED);
         }
         let memory = self.without_cell(c);
         memory.taken()

@@ -4,6 +4,7 @@ mod heap;
 mod looks;
 mod steps;
 
+use base::Refusal;
 use buffers::Buffer;
 use buffers::Phase;
 use buffers::Store;
@@ -11,7 +12,7 @@ ghost use mathlib.Core.Path.{_≡_};
 ghost use Rattle.memory.specs.Memories.{taken, refused, unseen, pendingLenOf, blockedOf};
 
 // The phase as memory holds it: a struct, so that it can be stored to as a field.
-pub struct Standing {
+pub struct PhaseWord {
     pub phase: Phase,
 }
 
@@ -28,7 +29,7 @@ pub struct Memory {
     pub field1: [u8; Memory::CELLS],
     pub fm: bool,
     pub fa: bool,
-    pub phase: Standing,
+    pub phase: PhaseWord,
     // 0: nobody; p + 1: process p
     pub lock: u16,
     pub buffers: [Buffer; Memory::PROCESSES],
@@ -75,25 +76,6 @@ impl Memory {
     pub const PROCESSES: usize = 5;
 }
 
-// Document 01's numbers.
-impl Memory {
-    pub const TAKEN: u8 = 0;
-
-    pub const NO_PROCESS: u8 = 2;
-
-    pub const NONE_PENDING: u8 = 5;
-
-    pub const BLOCKED: u8 = 7;
-
-    pub const PENDING: u8 = 8;
-
-    pub const FULL: u8 = 9;
-
-    pub const OCCUPIED: u8 = 10;
-
-    pub const FREE: u8 = 11;
-}
-
 impl Seen {
     fn refused(no: u8) -> Seen
         ensures { λ r. ⌜ r ≡ unseen no ⌝ }
@@ -113,7 +95,7 @@ impl Memory {
         ensures { λ r. ⌜ r ≡ taken self ⌝ }
     {
         Done {
-            no: Memory::TAKEN,
+            no: Refusal::TAKEN,
             memory: self,
         }
     }

@@ -6,6 +6,7 @@ use super::SeenBit;
 use super::SeenPhase;
 use super::SeenValue;
 use super::Swept;
+use base::Refusal;
 use buffers::Newest;
 use buffers::Spot;
 ghost use mathlib.Core.Path.{_≡_};
@@ -29,17 +30,17 @@ impl Memory {
         ensures { λ r. ⌜ r ≡ lookOf self p at ⌝ }
     {
         if self.blocked(p) {
-            return Seen::refused(Memory::BLOCKED);
+            return Seen::refused(Refusal::BLOCKED);
         }
         if self.there(at) {
             let own = self.newest(p, at);
-            let held = self.held(at);
+            let stands = self.stands(at);
             return Seen {
-                no: Memory::TAKEN,
-                store: own.store_or(held),
+                no: Refusal::TAKEN,
+                store: own.store_or(stands),
             };
         }
-        Seen::refused(Memory::FREE)
+        Seen::refused(Refusal::FREE)
     }
 
     pub fn look_mark(self, p: u8, c: u8) -> SeenBit
@@ -91,16 +92,16 @@ impl Memory {
         ensures { λ r. ⌜ r ≡ lookSweptOf self p c ⌝ }
     {
         let seen = self.look_mark(p, c);
-        if seen.no == Memory::FREE {
+        if seen.no == Refusal::FREE {
             return Swept {
-                no: Memory::TAKEN,
+                no: Refusal::TAKEN,
                 used: false,
                 bit: false,
             };
         }
         Swept {
             no: seen.no,
-            used: seen.no == Memory::TAKEN,
+            used: seen.no == Refusal::TAKEN,
             bit: seen.bit,
         }
     }

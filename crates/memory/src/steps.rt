@@ -1,6 +1,7 @@
 // What a process does to memory: write, commit, fence, lock, unlock. The checks run in number order.
 use super::Done;
 use super::Memory;
+use base::Refusal;
 use buffers::Entry;
 ghost use mathlib.Core.Path.{_≡_};
 ghost use Rattle.memory.specs.Steps.{writeOf, commitOf, fenceOf, lockOf, unlockOf};
@@ -12,7 +13,7 @@ impl Memory {
     {
         let i = p as usize;
         if Memory::PROCESSES <= i {
-            return self.refused(Memory::NO_PROCESS);
+            return self.refused(Refusal::NO_PROCESS);
         }
         let b = self.buffers[i];
         let pushed = b.push(e);
@@ -21,7 +22,7 @@ impl Memory {
             self.buffers[i] = more;
             return self.taken();
         }
-        self.refused(Memory::FULL)
+        self.refused(Refusal::FULL)
     }
 
     // "A commit applies one's oldest store, unblocked."
@@ -30,14 +31,14 @@ impl Memory {
     {
         let i = p as usize;
         if Memory::PROCESSES <= i {
-            return self.refused(Memory::NONE_PENDING);
+            return self.refused(Refusal::NONE_PENDING);
         }
         let b = self.buffers[i];
         if b.len == 0 {
-            return self.refused(Memory::NONE_PENDING);
+            return self.refused(Refusal::NONE_PENDING);
         }
         if self.blocked(p) {
-            return self.refused(Memory::BLOCKED);
+            return self.refused(Refusal::BLOCKED);
         }
         let popped = b.pop();
         let oldest = popped.entry;
@@ -48,7 +49,7 @@ impl Memory {
             let memory = self.apply(s);
             return memory.taken();
         }
-        self.refused(Memory::FREE)
+        self.refused(Refusal::FREE)
     }
 
     // "A fence needs one's own buffer empty."
@@ -58,7 +59,7 @@ impl Memory {
         if self.pending(p) == 0 {
             return self.taken();
         }
-        self.refused(Memory::PENDING)
+        self.refused(Refusal::PENDING)
     }
 
     // "Lock needs the lock free."
@@ -69,7 +70,7 @@ impl Memory {
             self.lock = (p as u16) + 1;
             return self.taken();
         }
-        self.refused(Memory::BLOCKED)
+        self.refused(Refusal::BLOCKED)
     }
 
     // "Unlock needs one's own buffer empty and leaves the lock with nobody."
@@ -80,6 +81,6 @@ impl Memory {
             self.lock = 0;
             return self.taken();
         }
-        self.refused(Memory::PENDING)
+        self.refused(Refusal::PENDING)
     }
 }

@@ -1,11 +1,15 @@
 // A step of a sequence, by its letter: the process p, the cell c, the field f and the value v are its digits.
-//     w p c f v   writes the field      m p c . v   writes the mark     s p . . v   writes fM      g p . . v   writes fA      h p . . v   writes the phase
+//     w p c f v   writes the field      m p c . v   writes the mark     s p . . v   writes fM      g p . . v   writes
+//                 fA      h p . . v   writes the phase
 //     c p   commits      f p   fences      l p   locks      u p   unlocks      a p c   allocates      d p c   frees
-//     F p c f   reads the field      M p c   looks at the mark      S p   reads fM      H p   reads the phase      E p c   looks for the sweep
+//     F p c f   reads the field      M p c   looks at the mark      S p   reads fM      H p   reads the phase      E
+//               p c   looks for the sweep
 //     P p   how many are pending      U . c   occupied or not      W   well formed or not
 // and what no step does, for malformed memories:
-//     0   all cells free      1 . . . v   v cells      2 . . . v   v processes      3 . c   c occupied      4 . . . v   the lock at v
-//     5 . c   a mark      6 . c f v   a field      7 p . . v   a length      8 p . f v   an entry at place f: v 0 the store x:=1, 1 fM:=0, 2 mark of null
+//     0   all cells free      1 . . . v   v cells      2 . . . v   v processes      3 . c   c occupied      4 . . . v
+//         the lock at v
+//     5 . c   a mark      6 . c f v   a field      7 p . . v   a length      8 p . f v   an entry at place f: v 0 the
+//             store x:=1, 1 fM:=0, 2 mark of null
 use super::Act;
 use super::bare;
 use super::say;
@@ -122,7 +126,7 @@ fn look(m: Memory, a: Act) {
         b'E' => saw_swept(m.look_swept(a.p, a.c)),
         b'P' => tell(m.pending(a.p) as u64),
         b'U' => tell(bit(m.is_used(a.c))),
-        _ => tell(bit(sound::well_formed(m))),
+        _ => tell(bit(memory_formed::well_formed(m))),
     }
 }
 

@@ -1,4 +1,5 @@
-// Numbers out of range. The engine refuses them before it asks memory (1, 2 and 4); memory itself has an answer for every number, and stays within its arrays.
+// Numbers out of range. The engine refuses them before it asks memory (1, 2 and 4); memory itself has an answer for
+// every number, and stays within its arrays.
 use super::run;
 
 // 2: "the process is above M". A process above 4 has no buffer: it has nothing pending, and reads memory.
@@ -13,7 +14,8 @@ fn processes() {
     );
 }
 
-// A length above 8, over entries that are all unused: not empty, and no room. The oldest entry is a mark of null, which is no occupied cell.
+// A length above 8, over entries that are all unused: not empty, and no room. The oldest entry is a mark of null,
+// which is no occupied cell.
 fn lengths() {
     run(
         b"1 has length 9; 1 writes, fences, unlocks, commits, reads x, pending, well formed:",
@@ -33,7 +35,8 @@ fn null() {
     );
 }
 
-// Above N a cell is free. Memory would occupy one, and would then not be well formed; the arrays have no place for cell 33, and a set has none for 65.
+// Above N a cell is free. Memory would occupy one, and would then not be well formed; the arrays have no place for
+// cell 33, and a set has none for 65.
 fn above() {
     run(
         b"1 looks at cell 4, reads field 0 of cell 33, writes it, commits:",

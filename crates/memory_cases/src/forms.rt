@@ -1,4 +1,5 @@
-// 1: "the state is malformed", as far as memory goes: each clause broken alone, beside the nearest memory that keeps it. 1 is well formed, 0 malformed.
+// 1: "the state is malformed", as far as memory goes: each clause broken alone, beside the nearest memory that
+//    keeps it. 1 is well formed, 0 malformed.
 use super::run;
 
 // "a count .. out of range": "N from 1 to 32"; "M from 1 to 4", so from 2 to 5 processes. All cells are free here.
@@ -27,7 +28,8 @@ fn ranges() {
     );
 }
 
-// "Unused: a free cell's mark and fields, cells above N". An occupied cell may have a mark, and any byte in a field here: what a value may be is not memory's to say.
+// "Unused: a free cell's mark and fields, cells above N". An occupied cell may have a mark, and any byte in a field
+// here: what a value may be is not memory's to say.
 fn cells() {
     run(
         b"mark 1 of cell 3, occupied; free; of cell 32, above N:",
@@ -43,7 +45,8 @@ fn cells() {
     );
 }
 
-// "a .. cell .. out of range", of a pending store: null, or above N; a field above 1. The cell may be free (3), and the value is a plain byte.
+// "a .. cell .. out of range", of a pending store: null, or above N; a field above 1. The cell may be free (3), and
+// the value is a plain byte.
 fn pending() {
     run(
         b"a mark pending of cell 1, then of cell 3, then of cell 4:",

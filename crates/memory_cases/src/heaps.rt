@@ -1,7 +1,8 @@
 // "A cell is free, or occupied": allocation, freeing, and what is asked of a free cell.
 use super::run;
 
-// "allocate free cell x (mark = memory's fA, null fields, ..": memory's, not the one that waits in a buffer, even the allocator's own. 10: "allocation of an occupied cell".
+// "allocate free cell x (mark = memory's fA, null fields, ..": memory's, not the one that waits in a buffer, even the
+// allocator's own. 10: "allocation of an occupied cell".
 fn allocation() {
     run(
         b"1 allocates cell 3, looks at it, reads z, reads field 1 of cell 3, 2 allocates cell 3, 2 allocates cell 1:",
@@ -17,7 +18,8 @@ fn allocation() {
     );
 }
 
-// "a freed cell may be allocated again"; "a step zeroes what it stops using": the old field is gone. Freeing a free cell is no case of the table, so it is taken.
+// "a freed cell may be allocated again"; "a step zeroes what it stops using": the old field is gone. Freeing a free
+// cell is no case of the table, so it is taken.
 fn again() {
     run(
         b"1 writes y:=1, commits, 0 frees cell 2, occupied, 1 allocates cell 2, occupied, 1 reads y:",
@@ -38,7 +40,8 @@ fn looks() {
     );
 }
 
-// 11: "commit of a mark or field on a free cell"; once the cell is allocated it is taken. fM, fA and the phase are of no cell.
+// 11: "commit of a mark or field on a free cell"; once the cell is allocated it is taken. fM, fA and the phase are
+//    of no cell.
 fn commits() {
     run(
         b"1 writes z:=1, commits, 0 allocates cell 3, 1 commits, 2 reads z:",

@@ -1,7 +1,8 @@
 // "A process is blocked while another holds the lock."
 use super::run;
 
-// 7: "a memory or own-buffer read, commit, allocation or free while blocked". Its own store is hidden from 2 all the same. Writes and fences are not among those.
+// 7: "a memory or own-buffer read, commit, allocation or free while blocked". Its own store is hidden from 2 all
+//    the same. Writes and fences are not among those.
 fn blocked() {
     run(
         b"2 writes x:=1, 1 locks; 2 reads x, looks at cell 1, reads fM, reads phase, commits:",
@@ -25,7 +26,8 @@ fn holder() {
     );
 }
 
-// 7: "a lock step while any process holds the lock", itself too. 8: "fence or unlock, own buffer not empty". "Unlock .. leaves the lock with nobody", and ends the block.
+// 7: "a lock step while any process holds the lock", itself too. 8: "fence or unlock, own buffer not empty".
+//    "Unlock .. leaves the lock with nobody", and ends the block.
 fn held() {
     run(
         b"1 locks, 2 locks, 1 locks, 1 unlocks, 2 locks:",

@@ -1,7 +1,10 @@
-// Runs memory on a table of sequences made by hand and prints a line for each: what was done, and each answer in turn. The file stdout beside src/ has what document 01
-// and x86-TSO want. An answer is document 01's number, 0 for taken. A look prints it with what it saw, as 0:2, and the sweep's look as number:occupied:mark.
-// Each sequence begins with three cells, of which 1 and 2 are occupied with mark 1 and null fields, fM and fA 1, phase Idle, processes 0 to 2.
-// In the table x is field 0 of cell 1, y is field 0 of cell 2, z is field 0 of cell 3; "1 writes x" is a step of process 1.
+// Runs memory on a table of sequences made by hand and prints a line for each: what was done, and each answer in
+// turn. The file stdout beside src/ has what document 01 and x86-TSO want. An answer is document 01's number, 0 for
+// taken. A look prints it with what it saw, as 0:2, and the sweep's look as number:occupied:mark.
+// Each sequence begins with three cells, of which 1 and 2 are occupied with mark 1 and null fields, fM and fA 1,
+// phase Idle, processes 0 to 2.
+// In the table x is field 0 of cell 1, y is field 0 of cell 2, z is field 0 of cell 3; "1 writes x" is a step of
+// process 1.
 mod acts;
 mod bounds;
 mod forms;
@@ -13,9 +16,10 @@ mod rooms;
 use buffers::Buffer;
 use buffers::Phase;
 use memory::Memory;
-use memory::Standing;
+use memory::PhaseWord;
 
-// One step of a sequence: six bytes, a letter (see `acts`), four digits and a space. The digits go on after 9 by the bytes' numbers: O is 31, P 32, Q 33, p 64, q 65.
+// One step of a sequence: six bytes, a letter (see `acts`), four digits and a space. The digits go on after 9 by the
+// bytes' numbers: O is 31, P 32, Q 33, p 64, q 65.
 struct Act {
     letter: u8,
     p: u8,
@@ -56,7 +60,7 @@ fn bare() -> Memory {
     let field0 = [0u8; Memory::CELLS];
     let field1 = [0u8; Memory::CELLS];
     let buffers = [empty; Memory::PROCESSES];
-    let phase = Standing { phase: Phase::Idle };
+    let phase = PhaseWord { phase: Phase::Idle };
     Memory {
         cells: 3,
         processes: 3,

@@ -1,8 +1,11 @@
-// What x86-TSO lets a process see: "A read gives the newest matching store of the reader's own buffer, else memory"; "A commit applies one's oldest store".
+// What x86-TSO lets a process see: "A read gives the newest matching store of the reader's own buffer, else memory";
+// "A commit applies one's oldest store".
 use super::run;
 
-// Store buffering. Each store waits in its writer's buffer, where the other can't see it: both old (0:0 0:0) is allowed, and tells x86-TSO from a memory with no buffers.
-// A store that was committed before the read is seen. With "a fence needs one's own buffer empty" between write and read, one of them at least sees the new value.
+// Store buffering. Each store waits in its writer's buffer, where the other can't see it: both old (0:0 0:0) is
+// allowed, and tells x86-TSO from a memory with no buffers.
+// A store that was committed before the read is seen. With "a fence needs one's own buffer empty" between write and
+// read, one of them at least sees the new value.
 fn store_buffering() {
     run(
         b"1 writes x:=1, 2 writes y:=1, 1 reads y, 2 reads x:",
@@ -22,8 +25,9 @@ fn store_buffering() {
     );
 }
 
-// Message passing: x is the data, y the flag, written in this order and, the buffer being FIFO, committed in this order. The six ways in which the two reads can fall
-// between the two commits: a new flag is never followed by old data, 0:1 0:0.
+// Message passing: x is the data, y the flag, written in this order and, the buffer being FIFO, committed in this
+// order. The six ways in which the two reads can fall between the two commits: a new flag is never followed by old
+// data, 0:1 0:0.
 fn message_passing() {
     run(
         b"1 writes x:=1, y:=1, 2 reads y, x:",
@@ -51,8 +55,9 @@ fn message_passing() {
     );
 }
 
-// "the reader's own buffer, else memory": one's own store is seen at once, by others once it is committed. "the newest": of two own stores the later; the older is
-// committed first. "matching": another field, another cell or the mark is another spot.
+// "the reader's own buffer, else memory": one's own store is seen at once, by others once it is committed. "the
+// newest": of two own stores the later; the older is committed first. "matching": another field, another cell or the
+// mark is another spot.
 fn own_stores() {
     run(
         b"1 writes x:=2, 1 reads x, 2 reads x, 1 commits, 2 reads x:",

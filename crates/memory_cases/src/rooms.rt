@@ -1,7 +1,8 @@
 // "a FIFO buffer of at most 8 pending stores": room, fences, and commits with nothing to commit.
 use super::run;
 
-// 9: "a write, 8 stores pending". "Room in a buffer is usable again after each commit." A full buffer of 1 is none of 2's.
+// 9: "a write, 8 stores pending". "Room in a buffer is usable again after each commit." A full buffer of 1 is none
+//    of 2's.
 fn full() {
     run(
         b"1 writes eight times, pending, writes, 2 writes:",

@@ -1,4 +1,5 @@
--- "Mutator": a mutator's program, but for its marks. What each place offers, what its step asks of memory, and how it goes on with what was seen. Assumes nothing.
+-- "Mutator": a mutator's program, but for its marks. What each place offers, what its step asks of memory, and how it
+-- goes on with what was seen. Assumes nothing.
 use mathlib.Core.Bool.{Bool, true, false, not}
 use Prim.Native.Nat.{ℕ, _+_}
 use lib.Dec.{eqb, leb, ltb}
@@ -14,9 +15,9 @@ use Rattle.memory.specs.declared.asks.Ask.{Ask}
 use Rattle.memory.specs.declared.asks.Ask.the-variants as ask
 use Rattle.memory.specs.declared.asks.Change.the-variants as change
 use Rattle.state.specs.declared.Handshake.{Handshake}
-use Rattle.state.specs.declared.Kind.{Kind}
-use Rattle.state.specs.declared.Kind.the-variants as kind
-use Rattle.state.specs.declared.Hands.{Hands}
+use Rattle.state.specs.declared.RoundType.{RoundType}
+use Rattle.state.specs.declared.RoundType.the-variants as round
+use Rattle.state.specs.declared.System.{System}
 use Rattle.state.specs.declared.Process.{Process}
 use Rattle.state.specs.declared.Choice.{Choice}
 use Rattle.state.specs.declared.acts.Act.the-variants as act
@@ -27,7 +28,8 @@ use Rattle.state.specs.Choices.{isBlank, isBare, isOfX}
 use Rattle.state.specs.Acts.{goingOn, goingWith}
 use Rattle.marking.specs.Marks.{pastOf}
 
--- ---- what is offered, among n cells. "At top the choice names an operation: 0 allocate free cell x": "cell 0 or above N" is none
+-- ---- what is offered, among n cells. "At top the choice names an operation: 0 allocate free cell x": "cell 0 or
+-- above N" is none
 unfoldable pub allocates : ℕ → Choice → Bool
 allocates n c = isOfX c and isCellOf n (c .x)
 
@@ -92,15 +94,15 @@ storing c old q =
     (at storeMarkOld lookStage (noting (c .x) (c .f) (c .y) old q))
 
 -- "5 answer a raised handshake": "read the type"
-abbrev pub answerPlace : Kind → ℕ
-answerPlace kind.Noop = noopFence
-answerPlace kind.Roots = rootsFence
-answerPlace kind.Work = workFence
+abbrev pub answerPlace : RoundType → ℕ
+answerPlace round.Noop = noopFence
+answerPlace round.Roots = rootsFence
+answerPlace round.Work = workFence
 
-unfoldable pub answering : Hands → Process → Process
+unfoldable pub answering : System → Process → Process
 answering h q = at (answerPlace (h .kind)) (q .stage) q
 
-unfoldable pub topGo : Choice → Store → Hands → Process → Process
+unfoldable pub topGo : Choice → Store → System → Process → Process
 topGo c v h q =
     pick (eqb (c .op) 0) (rooting (addOf (q .roots) (c .x)) q)
     (pick (eqb (c .op) 1) (rooting (removeOf (q .roots) (c .x)) q)
@@ -121,7 +123,8 @@ to k q = at k (q .stage) q
 unfoldable pub pastFence : Process → Process
 pastFence q = pick (eqb (q .roots) 0) (to rootsFinish q) (at rootsMark lookStage (leaving (q .roots) q))
 
--- "then one step lowers the flag, sets in step, and, for roots or work, moves its list to the system's (joining what is there; a no-op answer moves nothing).
+-- "then one step lowers the flag, sets in step, and, for roots or work, moves its list to the system's (joining what
+-- is there; a no-op answer moves nothing).
 -- That step advances the mutator's handshake phase for no-op and roots."
 unfoldable pub stepping : Handshake → Process → Process
 stepping h q = at top (q .stage) (shaking false true h q)
@@ -132,10 +135,10 @@ phaseNow q = q .part .phase
 abbrev pub phaseNext : Process → Handshake
 phaseNext q = nextOf (q .part .phase)
 
-unfoldable pub handing : Handshake → Hands → Process → Going
+unfoldable pub handing : Handshake → System → Process → Going
 handing p h q = goingWith (act.Lists (unionOf (h .work) (q .work))) (stepping p (listing 0 (q .roots) q))
 
-unfoldable pub mutatorGo : Choice → Store → Hands → Process → Going
+unfoldable pub mutatorGo : Choice → Store → System → Process → Going
 mutatorGo c v h q =
     pick (eqb (q .place) top) (goingOn (topGo c v h q))
     (pick (eqb (q .place) storeWrite) (goingOn (written q))

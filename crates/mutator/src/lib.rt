@@ -1,4 +1,5 @@
-// "Mutator": a mutator's program, but for its marks (crate `marking`). What each place offers, what its step asks of memory, and how it goes on with what was seen.
+// "Mutator": a mutator's program, but for its marks (crate `marking`). What each place offers, what its step asks of
+// memory, and how it goes on with what was seen.
 // c is the choice, q the process that makes it.
 use buffers::Spot;
 use buffers::Store;
@@ -6,13 +7,16 @@ use buffers::is_cell;
 use memory::asks::Ask;
 use memory::asks::Change;
 use state::Choice;
-use state::Hands;
 use state::Handshake;
-use state::Kind;
 use state::Part;
 use state::Process;
+use state::RoundType;
+use state::System;
 use state::acts::Act;
 use state::acts::Going;
+use state::codes::MarkStage;
+use state::codes::Operation;
+use state::codes::Place;
 ghost use mathlib.Core.Path.{_≡_};
 ghost use Rattle.mutator.specs.Mutators.{allocates, drops, readsField, storesField, topOffers, mutatorOffers, flagWaits, topAsk, mutatorAsk, rooting, storing, answerPlace, answering, topGo, written, pastFence, to, stepping, phaseNow, phaseNext, handing, mutatorGo};
 
@@ -69,25 +73,26 @@ fn top_offers(n: u8, c: Choice, q: Process) -> bool
 {
     let op = c.op;
     match op {
-        0 => allocates(n, c),
-        1 => drops(c, q),
-        2 => reads_field(c, q),
-        3 => stores_field(c, q),
-        4 => c.bare(),
-        5 => c.bare(),
-        6..=255 => false,
+        Operation::ALLOCATE => allocates(n, c),
+        Operation::DROP => drops(c, q),
+        Operation::READ => reads_field(c, q),
+        Operation::STORE => stores_field(c, q),
+        Operation::FENCE => c.bare(),
+        Operation::ANSWER => c.bare(),
+        Operation::BEYOND..=255 => false,
     }
 }
 
-// Check 4: the choice is among what the place offers, n being the number of cells. A place that is none of a mutator's offers nothing.
+// Check 4: the choice is among what the place offers, n being the number of cells. A place that is none of a
+// mutator's offers nothing.
 pub fn offers(n: u8, c: Choice, q: Process) -> bool
     ensures { λ r. ⌜ r ≡ mutatorOffers n c q ⌝ }
 {
     let place = q.place;
     match place {
-        Process::TOP => top_offers(n, c, q),
-        Process::STORE_MARK_OLD..=Process::WORK_FINISH => c.blank(),
-        Process::ROW1_ROUND..=255 => false,
+        Place::TOP => top_offers(n, c, q),
+        Place::STORE_MARK_OLD..=Place::WORK_FINISH => c.blank(),
+        Place::ROW1_ROUND..=255 => false,
     }
 }
 
@@ -95,8 +100,8 @@ pub fn offers(n: u8, c: Choice, q: Process) -> bool
 pub fn waits(c: Choice, q: Process) -> bool
     ensures { λ r. ⌜ r ≡ flagWaits c q ⌝ }
 {
-    if q.place == Process::TOP {
-        if c.op == 5 {
+    if q.place == Place::TOP {
+        if c.op == Operation::ANSWER {
             let part = q.part;
             return !part.raised;
         }
@@ -110,16 +115,16 @@ fn top_ask(c: Choice) -> Ask
 {
     let op = c.op;
     match op {
-        0 => Ask::Make(Change::Allocate(c.x)),
-        2 => Ask::Look(Spot::Field {
+        Operation::ALLOCATE => Ask::Make(Change::Allocate(c.x)),
+        Operation::READ => Ask::Look(Spot::Field {
             cell: c.x,
             field: c.f,
         }),
-        3 => Ask::Look(Spot::Field {
+        Operation::STORE => Ask::Look(Spot::Field {
             cell: c.x,
             field: c.f,
         }),
-        4 => Ask::Fence,
+        Operation::FENCE => Ask::Fence,
         _ => Ask::Nothing,
     }
 }
@@ -129,15 +134,15 @@ pub fn ask(c: Choice, q: Process) -> Ask
 {
     let place = q.place;
     match place {
-        Process::TOP => top_ask(c),
-        Process::STORE_WRITE => Ask::Make(Change::Write(Store::Field {
+        Place::TOP => top_ask(c),
+        Place::STORE_WRITE => Ask::Make(Change::Write(Store::Field {
             cell: q.x,
             field: q.f,
             value: q.y,
         })),
-        Process::NOOP_FENCE => Ask::Fence,
-        Process::ROOTS_FENCE => Ask::Fence,
-        Process::WORK_FENCE => Ask::Fence,
+        Place::NOOP_FENCE => Ask::Fence,
+        Place::ROOTS_FENCE => Ask::Fence,
+        Place::WORK_FENCE => Ask::Fence,
         _ => Ask::Nothing,
     }
 }
@@ -153,7 +158,7 @@ fn rooting(roots: u64, mut q: Process) -> Process
 fn storing(c: Choice, old: u8, mut q: Process) -> Process
     ensures { λ r. ⌜ r ≡ storing c old q ⌝ }
 {
-    q.place = Process::STORE_MARK_OLD;
+    q.place = Place::STORE_MARK_OLD;
     q.x = c.x;
     q.f = c.f;
     q.y = c.y;
@@ -161,23 +166,23 @@ fn storing(c: Choice, old: u8, mut q: Process) -> Process
     if old == 0 {
         return marking::past(q);
     }
-    q.stage = Process::LOOK;
+    q.stage = MarkStage::LOOK;
     q
 }
 
 // The branch of an answer, by the type read.
-fn answer_place(kind: Kind) -> u8
+fn answer_place(kind: RoundType) -> u8
     ensures { λ r. ⌜ r ≡ answerPlace kind ⌝ }
 {
     match kind {
-        Kind::Noop => Process::NOOP_FENCE,
-        Kind::Roots => Process::ROOTS_FENCE,
-        Kind::Work => Process::WORK_FENCE,
+        RoundType::Noop => Place::NOOP_FENCE,
+        RoundType::Roots => Place::ROOTS_FENCE,
+        RoundType::Work => Place::WORK_FENCE,
     }
 }
 
 // "5 answer a raised handshake": "read the type"
-fn answering(h: Hands, mut q: Process) -> Process
+fn answering(h: System, mut q: Process) -> Process
     ensures { λ r. ⌜ r ≡ answering h q ⌝ }
 {
     let kind = h.kind;
@@ -185,19 +190,20 @@ fn answering(h: Hands, mut q: Process) -> Process
     q
 }
 
-// "x becomes a root"; "drop root x"; "a non-null value becomes a root"; the old value is read; a fence moves nothing; the type is read.
-fn top_go(c: Choice, seen: Store, h: Hands, q: Process) -> Process
+// "x becomes a root"; "drop root x"; "a non-null value becomes a root"; the old value is read; a fence moves nothing;
+// the type is read.
+fn top_go(c: Choice, seen: Store, h: System, q: Process) -> Process
     ensures { λ r. ⌜ r ≡ topGo c seen h q ⌝ }
 {
     let op = c.op;
     match op {
-        0 => rooting(cells::add(q.roots, c.x), q),
-        1 => rooting(cells::remove(q.roots, c.x), q),
-        2 => rooting(cells::add(q.roots, seen.value_in()), q),
-        3 => storing(c, seen.value_in(), q),
-        4 => q,
-        5 => answering(h, q),
-        6..=255 => q,
+        Operation::ALLOCATE => rooting(cells::add(q.roots, c.x), q),
+        Operation::DROP => rooting(cells::remove(q.roots, c.x), q),
+        Operation::READ => rooting(cells::add(q.roots, seen.value_in()), q),
+        Operation::STORE => storing(c, seen.value_in(), q),
+        Operation::FENCE => q,
+        Operation::ANSWER => answering(h, q),
+        Operation::BEYOND..=255 => q,
     }
 }
 
@@ -205,7 +211,7 @@ fn top_go(c: Choice, seen: Store, h: Hands, q: Process) -> Process
 fn written(mut q: Process) -> Process
     ensures { λ r. ⌜ r ≡ written q ⌝ }
 {
-    q.place = Process::TOP;
+    q.place = Place::TOP;
     q.x = 0;
     q.f = 0;
     q.y = 0;
@@ -218,11 +224,11 @@ fn past_fence(mut q: Process) -> Process
     ensures { λ r. ⌜ r ≡ pastFence q ⌝ }
 {
     if q.roots == 0 {
-        q.place = Process::ROOTS_FINISH;
+        q.place = Place::ROOTS_FINISH;
         return q;
     }
-    q.place = Process::ROOTS_MARK;
-    q.stage = Process::LOOK;
+    q.place = Place::ROOTS_MARK;
+    q.stage = MarkStage::LOOK;
     q.left = q.roots;
     q
 }
@@ -243,12 +249,13 @@ fn stepping(phase: Handshake, mut q: Process) -> Process
         in_step: true,
         phase,
     };
-    q.place = Process::TOP;
+    q.place = Place::TOP;
     q.part = part;
     q
 }
 
-// The handshake phase as it stands, and the next one: "That step advances the mutator's handshake phase for no-op and roots."
+// The handshake phase as it stands, and the next one: "That step advances the mutator's handshake phase for no-op and
+// roots."
 fn phase_now(q: Process) -> Handshake
     ensures { λ r. ⌜ r ≡ phaseNow q ⌝ }
 {
@@ -265,7 +272,7 @@ fn phase_next(q: Process) -> Handshake
 }
 
 // For roots or work the last step also "moves its list to the system's (joining what is there ..)".
-fn handing(phase: Handshake, h: Hands, mut q: Process) -> Going
+fn handing(phase: Handshake, h: System, mut q: Process) -> Going
     ensures { λ r. ⌜ r ≡ handing phase h q ⌝ }
 {
     let joined = cells::union(h.work, q.work);
@@ -274,21 +281,21 @@ fn handing(phase: Handshake, h: Hands, mut q: Process) -> Going
 }
 
 // At a mark's places the crate `marking` tells how it goes on; past the last nothing is offered.
-pub fn go(c: Choice, seen: Store, h: Hands, q: Process) -> Going
+pub fn go(c: Choice, seen: Store, h: System, q: Process) -> Going
     ensures { λ r. ⌜ r ≡ mutatorGo c seen h q ⌝ }
 {
     let place = q.place;
     match place {
-        Process::TOP => Going::on(top_go(c, seen, h, q)),
-        Process::STORE_MARK_OLD..=Process::STORE_MARK_Y => Going::on(q),
-        Process::STORE_WRITE => Going::on(written(q)),
-        Process::NOOP_FENCE => Going::on(to(Process::NOOP_FINISH, q)),
-        Process::NOOP_FINISH => Going::on(stepping(phase_next(q), q)),
-        Process::ROOTS_FENCE => Going::on(past_fence(q)),
-        Process::ROOTS_MARK => Going::on(q),
-        Process::ROOTS_FINISH => handing(phase_next(q), h, q),
-        Process::WORK_FENCE => Going::on(to(Process::WORK_FINISH, q)),
-        Process::WORK_FINISH => handing(phase_now(q), h, q),
-        Process::ROW1_ROUND..=255 => Going::on(q),
+        Place::TOP => Going::on(top_go(c, seen, h, q)),
+        Place::STORE_MARK_OLD..=Place::STORE_MARK_Y => Going::on(q),
+        Place::STORE_WRITE => Going::on(written(q)),
+        Place::NOOP_FENCE => Going::on(to(Place::NOOP_FINISH, q)),
+        Place::NOOP_FINISH => Going::on(stepping(phase_next(q), q)),
+        Place::ROOTS_FENCE => Going::on(past_fence(q)),
+        Place::ROOTS_MARK => Going::on(q),
+        Place::ROOTS_FINISH => handing(phase_next(q), h, q),
+        Place::WORK_FENCE => Going::on(to(Place::WORK_FINISH, q)),
+        Place::WORK_FINISH => handing(phase_now(q), h, q),
+        Place::ROW1_ROUND..=255 => Going::on(q),
     }
 }

@@ -1,11 +1,12 @@
--- An own step of either program: what its place offers, what it asks of memory, and how it goes on with what was seen. The place tells the program. Assumes nothing.
+-- An own step of either program: what its place offers, what it asks of memory, and how it goes on with what was
+-- seen. The place tells the program. Assumes nothing.
 use mathlib.Core.Bool.{Bool}
 use Prim.Native.Nat.{ℕ}
 use lib.Dec.{eqb, ltb}
 use Rattle.base.specs.Pick.{pick}
+use Rattle.base.specs.Refusals.{asTaken, byNotOffered, byFlagDown}
 use Rattle.memory.specs.declared.asks.Ask.{Ask}
 use Rattle.memory.specs.declared.asks.Sight.{Sight}
-use Rattle.memory.specs.Memories.{asTaken}
 use Rattle.memory.specs.Asks.{Told}
 use Rattle.state.specs.declared.Process.{Process}
 use Rattle.state.specs.declared.State.{State}
@@ -13,7 +14,7 @@ use Rattle.state.specs.declared.Choice.{Choice}
 use Rattle.state.specs.declared.Answer.{Answer}
 use Rattle.state.specs.declared.acts.Going.{Going}
 use Rattle.state.specs.declared.acts.Setting.{Setting}
-use Rattle.state.specs.Codes.{notOffered, flagDown, row1Round}
+use Rattle.state.specs.Codes.{row1Round}
 use Rattle.state.specs.States.{withMemory, refusedOf, takenOf}
 use Rattle.state.specs.Acts.{goingOn, wentOf}
 use Rattle.marking.specs.Marks.{isSite, markOffers, markAsk, markGo}
@@ -28,7 +29,7 @@ ownOffers n c q =
     (collectorOffers c q))
 
 unfoldable pub ownRefuses : ℕ → Choice → Process → ℕ
-ownRefuses n c q = pick (ownOffers n c q) (pick (flagWaits c q) flagDown asTaken) notOffered
+ownRefuses n c q = pick (ownOffers n c q) (pick (flagWaits c q) byFlagDown asTaken) byNotOffered
 
 -- ---- what is asked of memory
 unfoldable pub ownAsk : Choice → Process → Ask
@@ -41,7 +42,7 @@ ownAsk c q =
 unfoldable pub ownGo : Choice → Setting → Sight → Process → Going
 ownGo c z v q =
     pick (isSite (q .place)) (goingOn (markGo c (v .store) q))
-    (pick (ltb (q .place) row1Round) (mutatorGo c (v .store) (z .hands) q)
+    (pick (ltb (q .place) row1Round) (mutatorGo c (v .store) (z .system) q)
     (collectorGo c z v q))
 
 -- memory's answer to process p: refused, or the process goes on with what was seen

@@ -1,5 +1,7 @@
-// An own step of either program: what its place offers, what it asks of memory, and how it goes on with what was seen. The place tells the program: a mark's is one of its own,
-// a mutator's places come before the collector's. c is the choice, q the process that makes it.
+// An own step of either program: what its place offers, what it asks of memory, and how it goes on with what was
+// seen. The place tells the program: a mark's is one of its own, a mutator's places come before the collector's. c is
+// the choice, q the process that makes it.
+use base::Refusal;
 use memory::asks::Ask;
 use memory::asks::Sight;
 use state::Answer;
@@ -7,6 +9,7 @@ use state::Choice;
 use state::Process;
 use state::acts::Going;
 use state::acts::Setting;
+use state::codes::Place;
 ghost use mathlib.Core.Path.{_≡_};
 ghost use Rattle.own.specs.Owns.{ownOffers, ownRefuses, ownAsk, ownGo};
 
@@ -16,7 +19,7 @@ fn offers(n: u8, c: Choice, q: Process) -> bool
     if marking::is_site(q.place) {
         return marking::offers(c, q);
     }
-    if q.place < Process::ROW1_ROUND {
+    if q.place < Place::ROW1_ROUND {
         return mutator::offers(n, c, q);
     }
     collector::offers(c, q)
@@ -27,12 +30,12 @@ pub fn refuses(n: u8, c: Choice, q: Process) -> u8
     ensures { λ r. ⌜ r ≡ ownRefuses n c q ⌝ }
 {
     if !offers(n, c, q) {
-        return Answer::NOT_OFFERED;
+        return Refusal::NOT_OFFERED;
     }
     if mutator::waits(c, q) {
-        return Answer::FLAG_DOWN;
+        return Refusal::FLAG_DOWN;
     }
-    Answer::TAKEN
+    Refusal::TAKEN
 }
 
 pub fn ask(c: Choice, q: Process) -> Ask
@@ -41,7 +44,7 @@ pub fn ask(c: Choice, q: Process) -> Ask
     if marking::is_site(q.place) {
         return marking::ask(c, q);
     }
-    if q.place < Process::ROW1_ROUND {
+    if q.place < Place::ROW1_ROUND {
         return mutator::ask(c, q);
     }
     collector::ask(c, q)
@@ -54,8 +57,8 @@ pub fn go(c: Choice, set: Setting, seen: Sight, q: Process) -> Going
     if marking::is_site(q.place) {
         return Going::on(marking::go(c, store, q));
     }
-    if q.place < Process::ROW1_ROUND {
-        let h = set.hands;
+    if q.place < Place::ROW1_ROUND {
+        let h = set.system;
         return mutator::go(c, store, h, q);
     }
     collector::go(c, set, seen, q)

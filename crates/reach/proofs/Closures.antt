@@ -1,7 +1,9 @@
 -- The closure that the passes compute. Assumes nothing.
 --     counted-more                   one number more of a loop that counts from 1
---     Met                            reach as far as a set can tell: through the cells 1 to N, to cells that a set can hold
---     follow-grows, follow-met, follow-has, pass-grows, pass-met, pass-has       what a step and a pass keep, add and see
+--     Met                            reach as far as a set can tell: through the cells 1 to N, to cells that a set
+--                                    can hold
+--     follow-grows, follow-met, follow-has, pass-grows, pass-met, pass-has       what a step and a pass keep, add and
+--     see
 --     Going, going-start, going-next, going-end, going-more       what the loop knows, turn by turn
 --     met-once                       only one set holds exactly the cells met
 --     reached-met                    the computed set does

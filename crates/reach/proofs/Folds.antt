@@ -14,7 +14,8 @@ use Rattle.cells.specs.Sets.{maxSet, noCells, Member, unionOf, addOf}
 use Rattle.cells.proofs.Bools.{not-both}
 use Rattle.cells.proofs.Members.{member-empty, member-pos, in-add, add-same, add-keeps, in-union, union-left, union-right}
 
--- f adds to a set what its element adds: `Adds b c`, the element b adds the number c; `none`, the element past the end, adds nothing
+-- f adds to a set what its element adds: `Adds b c`, the element b adds the number c; `none`, the element past the
+-- end, adds nothing
 module _ {B : Type 0} (f : ℕ → B → ℕ) (Adds : B → ℕ → Type 0) (none : B) (c : ℕ) where
   pub through-from : ((a : ℕ) (b : B) → Member (f a b) c → (Member a c) ⊎ (Adds b c)) → (a : ℕ) (l : List B) → Member (through f a l) c → (Member a c) ⊎ ((i : ℕ) × Adds (getD l i none) c)
   through-from k a [] p = inl p

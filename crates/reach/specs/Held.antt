@@ -20,8 +20,10 @@ use Rattle.state.specs.States.{processOf}
 abbrev pub storeAt : State → ℕ → ℕ → Store
 storeAt s p i = getD (pendingOf (bufferOf (s .memory) p)) i noEntry .store
 
--- c is held: a root, an honorary root ("the old value read by a running store"), the target or the value of a pending field store, of any process.
--- The collector of a well-formed state has neither roots nor an old value. Work lists and pending marks hold nothing (reading 8).
+-- c is held: a root, an honorary root ("the old value read by a running store"), the target or the value of a pending
+-- field store, of any process.
+-- The collector of a well-formed state has neither roots nor an old value. Work lists and pending marks hold nothing
+-- (reading 8).
 pub data Held (s : State) (c : ℕ) : Type 0 where
   root : (p : ℕ) → Member (processOf s p .roots) c → Held s c
   honorary : (p : ℕ) → processOf s p .old ≡ c → 0 < c → Held s c

@@ -66,7 +66,7 @@ fn of_processes(s: State) -> u64
 {
     let mut held = cells::empty();
     let mut i = 0;
-    while i < State::PROCESSES {
+    while i < Memory::PROCESSES {
         let q = s.procs[i];
         held = with_process(held, q);
         i += 1;

@@ -1,5 +1,6 @@
--- "A round is: fence; set type (all in-step bits off; the system's handshake phase advances for no-op and roots); raise each flag once, x naming the mutator; poll, x naming one
--- still awaited, until none is. A poll that finds the flag up is taken and changes nothing." What a step offers, what it asks of memory, and how it goes on.
+-- "A round is: fence; set type (all in-step bits off; the system's handshake phase advances for no-op and roots);
+-- raise each flag once, x naming the mutator; poll, x naming one still awaited, until none is. A poll that finds the
+-- flag up is taken and changes nothing." What a step offers, what it asks of memory, and how it goes on.
 -- The collector is q now, in the round r. Assumes nothing.
 use mathlib.Core.Bool.{Bool, false}
 use Prim.Native.Nat.{ℕ}
@@ -33,8 +34,8 @@ unfoldable pub roundAsk : Process → Ask
 roundAsk q = pick (eqb (q .stage) fenceStage) ask.Fence ask.Nothing
 
 -- ---- how it goes on
-abbrev pub pastFence : Process → Process
-pastFence q = at (q .place) typeStage q
+abbrev pub roundFenced : Process → Process
+roundFenced q = at (q .place) typeStage q
 
 -- "set type": every flag is then to be raised
 abbrev pub typing : ℕ → Process → Process
@@ -54,7 +55,7 @@ pollGo up c q r = pick up q (polling (removeOf (q .left) (c .x)) q r)
 
 unfoldable pub roundGo : Choice → Setting → Process → Round → Going
 roundGo c z q r =
-    pick (eqb (q .stage) fenceStage) (goingOn (pastFence q))
+    pick (eqb (q .stage) fenceStage) (goingOn (roundFenced q))
     (pick (eqb (q .stage) typeStage) (goingWith (act.Types (r .kind)) (typing (fullOf (z .mutators)) q))
     (pick (eqb (q .stage) raiseStage) (goingWith (act.Raises (c .x)) (raising (fullOf (z .mutators)) (removeOf (q .left) (c .x)) q))
     (pick (eqb (q .stage) pollStage) (goingOn (pollGo (z .up) c q r))

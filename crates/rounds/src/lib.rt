@@ -1,18 +1,21 @@
-// "A round is: fence; set type ..; raise each flag once, x naming the mutator; poll, x naming one still awaited, until none is": written once, for the collector's six rounds.
+// "A round is: fence; set type ..; raise each flag once, x naming the mutator; poll, x naming one still awaited,
+// until none is": written once, for the collector's six rounds.
 // What each step offers, what it asks of memory, and how it goes on. c is the choice, q the collector.
 use memory::asks::Ask;
 use state::Choice;
-use state::Kind;
 use state::Process;
+use state::RoundType;
 use state::acts::Act;
 use state::acts::Going;
 use state::acts::Setting;
+use state::codes::RoundStage;
+use state::codes::Stage;
 ghost use mathlib.Core.Path.{_≡_};
-ghost use Rattle.rounds.specs.Rounds.{roundOffers, roundAsk, pastFence, typing, raising, polling, pollGo, roundGo};
+ghost use Rattle.rounds.specs.Rounds.{roundOffers, roundAsk, roundFenced, typing, raising, polling, pollGo, roundGo};
 
 // A round of the collector: its type, and the place and stage that follow it.
 pub struct Round {
-    pub kind: Kind,
+    pub kind: RoundType,
     pub place: u8,
     pub stage: u8,
 }
@@ -23,12 +26,12 @@ pub fn offers(c: Choice, q: Process) -> bool
 {
     let stage = q.stage;
     match stage {
-        Process::NO_STAGE => false,
-        Process::FENCE => c.blank(),
-        Process::TYPE => c.blank(),
-        Process::RAISE => c.names(q.left),
-        Process::POLL => c.names(q.left),
-        5..=255 => false,
+        Stage::NONE => false,
+        RoundStage::FENCE => c.blank(),
+        RoundStage::TYPE => c.blank(),
+        RoundStage::RAISE => c.names(q.left),
+        RoundStage::POLL => c.names(q.left),
+        RoundStage::BEYOND..=255 => false,
     }
 }
 
@@ -36,7 +39,7 @@ pub fn offers(c: Choice, q: Process) -> bool
 pub fn ask(q: Process) -> Ask
     ensures { λ r. ⌜ r ≡ roundAsk q ⌝ }
 {
-    if q.stage == Process::FENCE {
+    if q.stage == RoundStage::FENCE {
         return Ask::Fence;
     }
     Ask::Nothing
@@ -46,7 +49,7 @@ pub fn ask(q: Process) -> Ask
 fn typing(all: u64, mut q: Process) -> Process
     ensures { λ r. ⌜ r ≡ typing all q ⌝ }
 {
-    q.stage = Process::RAISE;
+    q.stage = RoundStage::RAISE;
     q.left = all;
     q
 }
@@ -56,7 +59,7 @@ fn raising(all: u64, left: u64, mut q: Process) -> Process
     ensures { λ r. ⌜ r ≡ raising all left q ⌝ }
 {
     if left == 0 {
-        q.stage = Process::POLL;
+        q.stage = RoundStage::POLL;
         q.left = all;
         return q;
     }
@@ -87,10 +90,10 @@ fn poll(up: bool, c: Choice, q: Process, round: Round) -> Process
     polling(cells::remove(q.left, c.x), q, round)
 }
 
-fn past_fence(mut q: Process) -> Process
-    ensures { λ r. ⌜ r ≡ pastFence q ⌝ }
+fn fenced(mut q: Process) -> Process
+    ensures { λ r. ⌜ r ≡ roundFenced q ⌝ }
 {
-    q.stage = Process::TYPE;
+    q.stage = RoundStage::TYPE;
     q
 }
 
@@ -101,14 +104,14 @@ pub fn go(c: Choice, set: Setting, q: Process, round: Round) -> Going
     let kind = round.kind;
     let stage = q.stage;
     match stage {
-        Process::NO_STAGE => Going::on(q),
-        Process::FENCE => Going::on(past_fence(q)),
-        Process::TYPE => Going::with(Act::Types(kind), typing(all, q)),
-        Process::RAISE => Going::with(
+        Stage::NONE => Going::on(q),
+        RoundStage::FENCE => Going::on(fenced(q)),
+        RoundStage::TYPE => Going::with(Act::Types(kind), typing(all, q)),
+        RoundStage::RAISE => Going::with(
             Act::Raises(c.x),
             raising(all, cells::remove(q.left, c.x), q),
         ),
-        Process::POLL => Going::on(poll(set.up, c, q, round)),
-        5..=255 => Going::on(q),
+        RoundStage::POLL => Going::on(poll(set.up, c, q, round)),
+        RoundStage::BEYOND..=255 => Going::on(q),
     }
 }

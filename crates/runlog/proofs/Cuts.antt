@@ -11,6 +11,7 @@ use native.Mathlib.Omega.{arith}
 use native.Mathlib.Decide.{ℕ-discrete}
 use lib.ListN.{length, take, length-append, List·getD-append}
 use lib.Seq.{getD-take, length-take-le}
+use Rattle.base.specs.Refusals.{fewLeft}
 use Rattle.state.specs.declared.State.{State}
 use Rattle.state.specs.declared.opening.Heap.{Heap}
 use Rattle.state.specs.Openings.{openingOf}
@@ -21,7 +22,7 @@ use Rattle.header.specs.Statements.{SameOpening}
 use Rattle.header.proofs.Same.{header-decides, cut-inside}
 use Rattle.runlog.specs.declared.run.Run.{Run}
 use Rattle.runlog.specs.Records.{recordSize, checkPlace, choiceAt, recordAt}
-use Rattle.runlog.specs.Runs.{fewLeft, startOf, onwardOf, closedOf, wholeOf, leftOf, playedOf, outcomeOf}
+use Rattle.runlog.specs.Runs.{startOf, onwardOf, closedOf, wholeOf, leftOf, playedOf, outcomeOf}
 use Rattle.runlog.specs.Rule.{placeOf, recordOf, Whole, Taken, none, more, Stops, ended, short, wrong, refused, RunTo, runs}
 use Rattle.runlog.specs.Statements.{afterOf, ranOf, CutAnywhere, CutJudged, CutInHeader, CutBack, SameButLeft, CutSame, MoreBytes}
 use Rattle.runlog.proofs.Exacts.{closed-none, closed-few, closed-stays, run-to, judge-admitted, judge-refused, outcome-exactly}

@@ -7,14 +7,13 @@ use mathlib.Core.List.{List}
 use mathlib.Core.Logic.{_↔_}
 use Prim.Native.Nat.{ℕ}
 use native.Mathlib.Omega.{arith}
+use Rattle.base.specs.Refusals.{byMalformed, notAdmitted}
 use Rattle.state.specs.declared.State.{State}
-use Rattle.state.specs.Codes.{malformed}
-use Rattle.fits.specs.Fits.{WellFormed}
+use Rattle.formed.specs.Fits.{WellFormed}
 use Rattle.engine.proofs.Theorems.{kept, numbered, malformed-exactly}
 use Rattle.verdict.specs.Judged.{isMalformed, judgedOf}
 use Rattle.verdict.proofs.Verdicts.{judged-holds, verdicts-exactly}
 use Rattle.verdict.proofs.Formed as verdict
-use Rattle.header.specs.Header.{notAdmitted}
 use Rattle.header.specs.Admitted.{Admitted}
 use Rattle.runlog.specs.declared.Outcome.{Outcome}
 use Rattle.runlog.specs.Runs.{outcomeOf, judgeOf}
@@ -32,7 +31,7 @@ taken-formed log a {k} {s} t =
 
 -- ---- the stop of a run is neither 1 nor 12
 module _ {log : List ℕ} {k : ℕ} {s : State} where
-  not-malformed : {n : ℕ} → WellFormed s → Stops log k s n → n ≡ malformed → ⊥
+  not-malformed : {n : ℕ} → WellFormed s → Stops log k s n → n ≡ byMalformed → ⊥
   not-malformed w (ended l) e = omega arith
   not-malformed w (short l m) e = omega arith
   not-malformed w (wrong l r) e = omega arith

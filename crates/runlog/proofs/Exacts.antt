@@ -13,13 +13,14 @@ use native.Mathlib.Decide.{ℕ-discrete}
 use native.Mathlib.Numerals.{add-one}
 use native.Mathlib.Omega.{arith}
 use borrow.Author.Tests.{eq-eqb, ne-eqb}
+use Rattle.base.specs.Refusals.{wrongCheck, fewLeft}
 use Rattle.cells.proofs.Bools.{split, not-both}
 use Rattle.state.specs.declared.State.{State}
 use Rattle.state.specs.declared.Choice.{Choice}
 use Rattle.state.specs.declared.Answer.{Answer}
 use Rattle.state.specs.Openings.{openingOf}
 use Rattle.state.specs.States.{takenOf}
-use Rattle.fits.specs.Fits.{WellFormed}
+use Rattle.formed.specs.Fits.{WellFormed}
 use Rattle.engine.specs.Steps.{stepOf}
 use Rattle.verdict.specs.declared.Finding.{Finding}
 use Rattle.verdict.proofs.Formed.{formed-judged}
@@ -29,7 +30,7 @@ use Rattle.header.proofs.Agrees.{admitted-clauses, clauses-admitted}
 use Rattle.runlog.specs.declared.Outcome.{Outcome}
 use Rattle.runlog.specs.declared.run.Run.{Run}
 use Rattle.runlog.specs.Records.{checkOf}
-use Rattle.runlog.specs.Runs.{endedOf, wrongCheck, fewLeft, stoppedOf, answeredOf, turnedOf, onwardOf, closedOf, wholeOf, leftOf, playedOf, outcomeOf, notOpened, judgeIf, judgeOf}
+use Rattle.runlog.specs.Runs.{endedOf, stoppedOf, afterAnswer, turnedOf, onwardOf, closedOf, wholeOf, leftOf, playedOf, outcomeOf, notOpened, judgeIf, judgeOf}
 use Rattle.runlog.specs.Rule.{recordOf, Whole, RightCheck, Taken, none, more, Stops, ended, short, wrong, refused, RunTo, Judges, shut, runs}
 use Rattle.runlog.specs.Statements.{RunKeeps, OutcomeExactly, NotAdmitted, NumbersOfRun, afterOf, ranOf}
 use Rattle.runlog.proofs.Turns.{onward-goes, onward-stays, turn-wrong, turn-right, answered-taken, answered-refused, run-stays}
@@ -112,7 +113,7 @@ module _ (log : List ℕ) (adm : Admitted log) where
       w : Whole log k
       w = omega arith
 
-      answered : (s : State) → Taken log k s → RightCheck (recordOf log k) → (a : Answer) → a ≡ answer k s → Dec (a .no ≡ 0) → At (suc k) (answeredOf (endedOf s k 0) a)
+      answered : (s : State) → Taken log k s → RightCheck (recordOf log k) → (a : Answer) → a ≡ answer k s → Dec (a .no ≡ 0) → At (suc k) (afterAnswer (endedOf s k 0) a)
       answered s p r a e (yes z) = rw (answered-taken (endedOf s k 0) a z) (going refl (add-one k) (more k s (a .state) p w r (sym e ∙ ap (λ (n : ℕ). record { no = n; state = a .state }) z)))
       answered s p r a e (no n) =
           rw (answered-refused (endedOf s k 0) a n) (stopped n p (rw e (refused w r (rw e at n))))

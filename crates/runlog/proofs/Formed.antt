@@ -16,8 +16,8 @@ use Rattle.base.specs.Pick.{pick}
 use Rattle.base.proofs.Picking.{picked, pick-no}
 use Rattle.state.specs.declared.State.{State}
 use Rattle.state.specs.Openings.{openingOf}
-use Rattle.fits.specs.Fits.{WellFormed}
-use Rattle.fits.proofs.Opens.{opening-formed}
+use Rattle.formed.specs.Fits.{WellFormed}
+use Rattle.formed.proofs.Opens.{opening-formed}
 use Rattle.engine.specs.Steps.{stepOf}
 use Rattle.engine.specs.Runs as engine
 use Rattle.engine.proofs.Theorems.{inner-formed}

@@ -14,6 +14,7 @@ use native.Mathlib.Numerals.{add-one}
 use native.Mathlib.Decide.{ℕ-discrete}
 use native.Mathlib.Omega.{arith}
 use borrow.Author.Tests.{eq-eqb, ne-eqb}
+use Rattle.base.specs.Refusals.{wrongCheck}
 use Rattle.state.specs.declared.State.{State}
 use Rattle.state.specs.declared.Answer.{Answer}
 use Rattle.state.specs.States.{takenOf}
@@ -21,7 +22,7 @@ use Rattle.engine.specs.Steps.{innerOf}
 use Rattle.runlog.specs.declared.record.Record.{Record}
 use Rattle.runlog.specs.declared.run.Run.{Run}
 use Rattle.runlog.specs.Records.{recordSize, recordAt, checkOf}
-use Rattle.runlog.specs.Runs.{wrongCheck, endedOf, stoppedOf, tookOf, answeredOf, turnedOf, turnOf, onwardIf, onwardOf, runOf}
+use Rattle.runlog.specs.Runs.{endedOf, stoppedOf, tookOf, afterAnswer, turnedOf, turnOf, onwardIf, onwardOf, runThrough}
 use Rattle.runlog.specs.Rule.{RightCheck}
 
 pub onward-goes : (run : Run) (r : Record) → run .stop ≡ 0 → onwardOf run r ≡ turnOf run r
@@ -36,49 +37,49 @@ onward-stays run r n = ap (λ (b : Bool). onwardIf b run r) (ne-eqb (run .stop) 
 pub turn-wrong : (run : Run) (r : Record) (a : Answer) → (RightCheck r → ⊥) → turnedOf run r a ≡ stoppedOf wrongCheck run
 turn-wrong run r a n = rw (ne-eqb (r .check) (checkOf (r .choice)) n) refl
 
-pub turn-right : (run : Run) (r : Record) (a : Answer) → RightCheck r → turnedOf run r a ≡ answeredOf run a
+pub turn-right : (run : Run) (r : Record) (a : Answer) → RightCheck r → turnedOf run r a ≡ afterAnswer run a
 turn-right run r a e = rw (eq-eqb (r .check) (checkOf (r .choice)) e) refl
 
-pub answered-taken : (run : Run) (a : Answer) → a .no ≡ 0 → answeredOf run a ≡ tookOf run (a .state)
+pub answered-taken : (run : Run) (a : Answer) → a .no ≡ 0 → afterAnswer run a ≡ tookOf run (a .state)
 answered-taken run a e = rw (eq-eqb (a .no) 0 e) refl
 
-pub answered-refused : (run : Run) (a : Answer) → (a .no ≡ 0 → ⊥) → answeredOf run a ≡ stoppedOf (a .no) run
+pub answered-refused : (run : Run) (a : Answer) → (a .no ≡ 0 → ⊥) → afterAnswer run a ≡ stoppedOf (a .no) run
 answered-refused run a n = rw (ne-eqb (a .no) 0 n) refl
 
 module _ (log : List ℕ) (at : ℕ) (s : State) where
-  pub run-more : (run q : Run) (k : ℕ) → run ≡ runOf log at s k → run .stop ≡ 0 → q ≡ turnOf run (recordAt log (at + recordSize * k)) → q ≡ runOf log at s (k + 1)
+  pub run-more : (run q : Run) (k : ℕ) → run ≡ runThrough log at s k → run .stop ≡ 0 → q ≡ turnOf run (recordAt log (at + recordSize * k)) → q ≡ runThrough log at s (k + 1)
   run-more run q k e z t =
       let r = recordAt log (at + recordSize * k) in
-      t ∙ sym (onward-goes run r z) ∙ ap (λ (x : Run). onwardOf x r) e ∙ sym (ap (runOf log at s) (add-one k))
+      t ∙ sym (onward-goes run r z) ∙ ap (λ (x : Run). onwardOf x r) e ∙ sym (ap (runThrough log at s) (add-one k))
 
-  pub run-stays : (run : Run) (n k : ℕ) → run ≡ runOf log at s k → (run .stop ≡ 0 → ⊥) → k ≤ n → run ≡ runOf log at s n
-  run-stays run zero k e z l = let q : k ≡ 0 = omega arith in e ∙ ap (runOf log at s) q
+  pub run-stays : (run : Run) (n k : ℕ) → run ≡ runThrough log at s k → (run .stop ≡ 0 → ⊥) → k ≤ n → run ≡ runThrough log at s n
+  run-stays run zero k e z l = let q : k ≡ 0 = omega arith in e ∙ ap (runThrough log at s) q
   run-stays run (suc n) k e z l = go (ℕ-discrete k (suc n)) (run-stays run n k e z)
     where
-      go : Dec (k ≡ suc n) → (k ≤ n → run ≡ runOf log at s n) → run ≡ runOf log at s (suc n)
-      go (yes q) f = e ∙ ap (runOf log at s) q
+      go : Dec (k ≡ suc n) → (k ≤ n → run ≡ runThrough log at s n) → run ≡ runThrough log at s (suc n)
+      go (yes q) f = e ∙ ap (runThrough log at s) q
       go (no q) f =
           let r = recordAt log (at + recordSize * n) in
           sym (onward-stays run r z) ∙ ap (λ (x : Run). onwardOf x r) (f (omega arith))
 
   -- the run goes on, in the state t after k records
   abbrev pub Ongoing : State → ℕ → Type 0
-  Ongoing t k = endedOf t k 0 ≡ runOf log at s k
+  Ongoing t k = endedOf t k 0 ≡ runThrough log at s k
 
   module _ (t : State) (k n : ℕ) (r : Record) (o : Ongoing t k) (e : r ≡ recordAt log (at + recordSize * k)) (l : k < n) where
     -- the record is turned down, and those after it change nothing
-    halted : (m : ℕ) → (m ≡ 0 → ⊥) → turnOf (endedOf t k 0) r ≡ endedOf t k m → endedOf t k m ≡ runOf log at s n
+    halted : (m : ℕ) → (m ≡ 0 → ⊥) → turnOf (endedOf t k 0) r ≡ endedOf t k m → endedOf t k m ≡ runThrough log at s n
     halted m z h =
         let run : Run = endedOf t k 0 in
         let q : Run = endedOf t k m in
         run-stays q n (k + 1) (run-more run q k o refl (sym h ∙ ap (turnOf run) e)) z (omega arith)
 
-    pub wrong-halts : (RightCheck r → ⊥) → endedOf t k wrongCheck ≡ runOf log at s n
+    pub wrong-halts : (RightCheck r → ⊥) → endedOf t k wrongCheck ≡ runThrough log at s n
     unfolding turnOf
     wrong-halts h = halted wrongCheck (λ z. omega arith) (turn-wrong (endedOf t k 0) r (innerOf t (r .choice)) h)
 
     module _ (right : RightCheck r) where
-      pub refused-halts : (m : ℕ) → innerOf t (r .choice) .no ≡ m → (m ≡ 0 → ⊥) → endedOf t k m ≡ runOf log at s n
+      pub refused-halts : (m : ℕ) → innerOf t (r .choice) .no ≡ m → (m ≡ 0 → ⊥) → endedOf t k m ≡ runThrough log at s n
       unfolding turnOf
       refused-halts m f z =
           let run : Run = endedOf t k 0 in

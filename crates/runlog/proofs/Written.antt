@@ -20,7 +20,7 @@ use Rattle.runlog.specs.declared.record.Record.{Record}
 use Rattle.runlog.specs.Records.{recordSize, checkPlace, choiceAt, recordAt, checkOf}
 use Rattle.runlog.specs.Rule.{placeOf}
 use Rattle.runlog.specs.Statements.{choicesOf}
-use Rattle.runlog.specs.Written.{checkSize, sixOf, recordBytes, ChoiceFits, rightOf, noChoice, choiceOf, recordsOf, logOf, WrittenEight, WrittenBytes, WrittenRead, WrittenRight, LogOpens, LogRecords, LogChoices}
+use Rattle.runlog.specs.Written.{checkSize, sixOf, recordBytes, ChoiceFits, rightRecord, noChoice, choiceOf, recordsOf, logOf, WrittenEight, WrittenBytes, WrittenRead, WrittenRight, LogOpens, LogRecords, LogChoices}
 
 pub written-eight : WrittenEight
 written-eight c = refl
@@ -47,7 +47,7 @@ module _ (log : List ℕ) (at : ℕ) (c : Choice) (w : ChoiceFits c) (b : (j : �
       let z : byteAt log at ≡ c .process = rw e at (b 0 (omega arith)) in
       rw (z, b 1 (omega arith), b 2 (omega arith), b 3 (omega arith), b 4 (omega arith), b 5 (omega arith)) refl
 
-  read : recordAt log at ≡ rightOf c
+  read : recordAt log at ≡ rightRecord c
   unfolding recordAt
   read = rw (choice, check) refl
 

@@ -1,4 +1,5 @@
--- A record of the log: "Records of 8 bytes: process, kind, operation, x, f, y, and a 16-bit check equal to the sum of those six plus 1". Assumes nothing.
+-- A record of the log: "Records of 8 bytes: process, kind, operation, x, f, y, and a 16-bit check equal to the sum of
+-- those six plus 1". Assumes nothing.
 use mathlib.Core.Bool.{Bool}
 use mathlib.Core.List.{List}
 use Prim.Native.Nat.{ℕ, _+_}

@@ -1,21 +1,22 @@
--- The log's rule as facts, over the whole step and the finding of any state: which records are taken, where the run stops and why, and the three numbers.
+-- The log's rule as facts, over the whole step and the finding of any state: which records are taken, where the run
+-- stops and why, and the three numbers.
 -- Assumes nothing.
 use mathlib.Core.Path.{_≡_}
 use mathlib.Core.List.{List}
 use Prim.Native.Nat.{ℕ, zero, suc, _+_, _*_, _≤_, _<_}
 use lib.ListN.{length}
+use Rattle.base.specs.Refusals.{notAdmitted, wrongCheck, fewLeft}
 use Rattle.state.specs.declared.State.{State}
 use Rattle.state.specs.Openings.{openingOf}
 use Rattle.state.specs.States.{takenOf}
 use Rattle.engine.specs.Steps.{stepOf}
 use Rattle.verdict.specs.Judged.{isMalformed}
 use Rattle.verdict.specs.Findings.{findingOf}
-use Rattle.header.specs.Header.{sizeOf, heapOf, notAdmitted}
+use Rattle.header.specs.Header.{sizeOf, heapOf}
 use Rattle.header.specs.Admitted.{Admitted}
 use Rattle.runlog.specs.declared.Outcome.{Outcome}
 use Rattle.runlog.specs.declared.record.Record.{Record}
 use Rattle.runlog.specs.Records.{recordSize, recordAt, checkOf}
-use Rattle.runlog.specs.Runs.{wrongCheck, fewLeft}
 
 -- "Records of 8 bytes", after the header: where the record k + 1 begins, and the record
 abbrev pub placeOf : List ℕ → ℕ → ℕ

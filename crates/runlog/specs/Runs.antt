@@ -1,27 +1,22 @@
--- The run of a log: its records taken one by one, each by the step of the state before it, and the three numbers. Assumes nothing.
+-- The run of a log: its records taken one by one, each by the step of the state before it, and the three numbers.
+-- Assumes nothing.
 use mathlib.Core.Bool.{Bool, true, false}
 use mathlib.Core.List.{List}
 use Prim.Native.Nat.{ℕ, zero, suc, _+_, _-_, _*_, _/_, _%_}
 use lib.Dec.{eqb}
 use lib.ListN.{length}
 use Rattle.base.specs.Pick.{pick}
+use Rattle.base.specs.Refusals.{notAdmitted, wrongCheck, fewLeft}
 use Rattle.state.specs.declared.State.{State}
 use Rattle.state.specs.declared.Answer.{Answer}
 use Rattle.state.specs.Openings.{openingOf}
 use Rattle.engine.specs.Steps.{innerOf}
 use Rattle.verdict.specs.Judged.{isMalformed, judgedOf}
-use Rattle.header.specs.Header.{sizeOf, admittedOf, heapOf, notAdmitted}
+use Rattle.header.specs.Header.{sizeOf, admittedOf, heapOf}
 use Rattle.runlog.specs.declared.Outcome.{Outcome}
 use Rattle.runlog.specs.declared.record.Record.{Record}
 use Rattle.runlog.specs.declared.run.Run.{Run}
 use Rattle.runlog.specs.Records.{recordSize, recordAt, rightCheckOf}
-
--- "(else stop 13)"; "Fewer than 8 bytes left: stop 14."
-abbrev pub wrongCheck : ℕ
-wrongCheck = 13
-
-abbrev pub fewLeft : ℕ
-fewLeft = 14
 
 -- a run that has come to the state s, with k records taken and the stop n
 abbrev pub endedOf : State → ℕ → ℕ → Run
@@ -40,12 +35,12 @@ abbrev pub tookOf : Run → State → Run
 tookOf run t = endedOf t (run .steps + 1) 0
 
 -- "A refused record stops with its number."
-abbrev pub answeredOf : Run → Answer → Run
-answeredOf run a = pick (eqb (a .no) 0) (tookOf run (a .state)) (stoppedOf (a .no) run)
+abbrev pub afterAnswer : Run → Answer → Run
+afterAnswer run a = pick (eqb (a .no) 0) (tookOf run (a .state)) (stoppedOf (a .no) run)
 
 -- a record's turn, by what the step answers to it: a wrong check comes before any refusal of that record
 abbrev pub turnedOf : Run → Record → Answer → Run
-turnedOf run r a = pick (rightCheckOf r) (answeredOf run a) (stoppedOf wrongCheck run)
+turnedOf run r a = pick (rightCheckOf r) (afterAnswer run a) (stoppedOf wrongCheck run)
 
 unfoldable pub turnOf : Run → Record → Run
 turnOf run r = turnedOf run r (innerOf (run .state) (r .choice))
@@ -59,9 +54,9 @@ unfoldable pub onwardOf : Run → Record → Run
 onwardOf run r = onwardIf (eqb (run .stop) 0) run r
 
 -- the run of the first k of the records that begin at a place
-abbrev pub runOf : List ℕ → ℕ → State → ℕ → Run
-runOf log at s zero = startOf s
-runOf log at s (suc k) = onwardOf (runOf log at s k) (recordAt log (at + recordSize * k))
+abbrev pub runThrough : List ℕ → ℕ → State → ℕ → Run
+runThrough log at s zero = startOf s
+runThrough log at s (suc k) = onwardOf (runThrough log at s k) (recordAt log (at + recordSize * k))
 
 -- "Fewer than 8 bytes left: stop 14. None left: stop 0."
 unfoldable pub closedOf : Run → ℕ → Run
@@ -75,7 +70,7 @@ abbrev pub leftOf : List ℕ → ℕ
 leftOf log = (length log - sizeOf log) % recordSize
 
 unfoldable pub playedOf : List ℕ → State → Run
-playedOf log s = closedOf (runOf log (sizeOf log) s (wholeOf log)) (leftOf log)
+playedOf log s = closedOf (runThrough log (sizeOf log) s (wholeOf log)) (leftOf log)
 
 -- "the verdict is that of the state then, 4 on stop 12"
 unfoldable pub outcomeOf : Run → Outcome

@@ -6,22 +6,22 @@ use Prim.Native.Nat.{ℕ, zero, suc, _-_, _/_, _%_, _≤_, _<_}
 use lib.Dec.{eqb}
 use lib.ListN.{length, take}
 use Rattle.base.specs.Pick.{pick}
+use Rattle.base.specs.Refusals.{byMalformed, notAdmitted, fewLeft}
 use Rattle.state.specs.declared.State.{State}
 use Rattle.state.specs.declared.Choice.{Choice}
-use Rattle.state.specs.Codes.{malformed}
 use Rattle.state.specs.Openings.{openingOf}
 use Rattle.state.specs.States.{takenOf}
-use Rattle.fits.specs.Fits.{HeapFits, WellFormed}
+use Rattle.formed.specs.Fits.{HeapFits, WellFormed}
 use Rattle.engine.specs.Steps.{stepOf}
 use Rattle.engine.specs.Runs as engine
 use Rattle.verdict.specs.Judged.{isMalformed, found, Judged}
 use Rattle.verdict.specs.Statements.{Verdicts}
-use Rattle.header.specs.Header.{maxLog, sizeOf, heapOf, notAdmitted}
+use Rattle.header.specs.Header.{maxLog, sizeOf, heapOf}
 use Rattle.header.specs.Admitted.{Admitted}
 use Rattle.runlog.specs.declared.Outcome.{Outcome}
 use Rattle.runlog.specs.declared.run.Run.{Run}
 use Rattle.runlog.specs.Records.{recordSize}
-use Rattle.runlog.specs.Runs.{fewLeft, turnedOf, runOf, closedOf, wholeOf, leftOf, playedOf, outcomeOf, notOpened, judgeOf}
+use Rattle.runlog.specs.Runs.{turnedOf, runThrough, closedOf, wholeOf, leftOf, playedOf, outcomeOf, notOpened, judgeOf}
 use Rattle.runlog.specs.Rule.{placeOf, recordOf, Taken, Judges}
 
 -- the outcome is the one of the log's rule, and there is no other
@@ -34,7 +34,7 @@ NotAdmitted = (log : List ℕ) → (Admitted log → ⊥) → judgeOf log ≡ no
 
 -- the run of a log's first k records, and of the whole log
 abbrev pub afterOf : List ℕ → ℕ → Run
-afterOf log k = runOf log (sizeOf log) (openingOf (heapOf log)) k
+afterOf log k = runThrough log (sizeOf log) (openingOf (heapOf log)) k
 
 abbrev pub ranOf : List ℕ → Run
 ranOf log = playedOf log (openingOf (heapOf log))
@@ -43,7 +43,8 @@ ranOf log = playedOf log (openingOf (heapOf log))
 abbrev pub NumbersOfRun : Type 0
 NumbersOfRun = (log : List ℕ) → Admitted log → judgeOf log ≡ outcomeOf (ranOf log)
 
--- the run is the fold of the step over the records, prefix by prefix: "each record's state is its own step's". A run that has stopped takes no more records.
+-- the run is the fold of the step over the records, prefix by prefix: "each record's state is its own step's". A run
+-- that has stopped takes no more records.
 abbrev pub EachItsOwn : Type 0
 EachItsOwn =
     (log : List ℕ) (k : ℕ) → Admitted log
@@ -80,7 +81,7 @@ RanFormed = (log : List ℕ) → Admitted log → WellFormed (ranOf log .state)
 
 -- so no log stops with 1: "the state is malformed"
 abbrev pub NeverMalformed : Type 0
-NeverMalformed = (log : List ℕ) → judgeOf log .stop ≡ malformed → ⊥
+NeverMalformed = (log : List ℕ) → judgeOf log .stop ≡ byMalformed → ⊥
 
 -- "stop 12" exactly for a log that is not admitted, and verdict 4 too: "4 on stop 12"
 abbrev pub StopNotAdmitted : Type 0

@@ -1,12 +1,12 @@
--- Records as bytes, written from choices: "Records of 8 bytes: process, kind, operation, x, f, y, and a 16-bit check equal to the sum of those six plus 1". And what
--- is proved of them, each statement by its name. Assumes nothing.
+-- Records as bytes, written from choices: "Records of 8 bytes: process, kind, operation, x, f, y, and a 16-bit check
+-- equal to the sum of those six plus 1". And what is proved of them, each statement by its name. Assumes nothing.
 use mathlib.Core.Path.{_≡_}
 use mathlib.Core.List.{List, [], _∷_, _++_}
 use Prim.Native.Nat.{ℕ, _≤_, _<_}
 use lib.ListN.{length, getD}
 use Rattle.state.specs.declared.Choice.{Choice}
 use Rattle.state.specs.declared.opening.Heap.{Heap}
-use Rattle.fits.specs.Fits.{HeapFits}
+use Rattle.formed.specs.Fits.{HeapFits}
 use Rattle.header.specs.Bytes.{perByte}
 use Rattle.header.specs.Header.{maxLog}
 use Rattle.header.specs.Written.{littleOf, inTurn, Bytes, bytesOf, Opens}
@@ -37,8 +37,8 @@ pub record ChoiceFits (c : Choice) : Type 0 where
   pub y : c .y < perByte
 
 -- the record of a choice with the check that it should have
-abbrev pub rightOf : Choice → Record
-rightOf c = record { choice = c; check = checkOf c }
+abbrev pub rightRecord : Choice → Record
+rightRecord c = record { choice = c; check = checkOf c }
 
 -- ---- a whole log: the header of a heap, and a record for each choice
 abbrev pub noChoice : Choice
@@ -66,7 +66,7 @@ WrittenBytes = (c : Choice) → ChoiceFits c → Bytes (recordBytes c)
 
 -- read again at any place of a log they give the choice, and its check is right
 abbrev pub WrittenRead : Type 0
-WrittenRead = (before after : List ℕ) (c : Choice) → ChoiceFits c → recordAt (before ++ (recordBytes c ++ after)) (length before) ≡ rightOf c
+WrittenRead = (before after : List ℕ) (c : Choice) → ChoiceFits c → recordAt (before ++ (recordBytes c ++ after)) (length before) ≡ rightRecord c
 
 abbrev pub WrittenRight : Type 0
 WrittenRight = (before after : List ℕ) (c : Choice) → ChoiceFits c → RightCheck (recordAt (before ++ (recordBytes c ++ after)) (length before))
@@ -76,7 +76,7 @@ abbrev pub LogOpens : Type 0
 LogOpens = (h : Heap) (cs : List Choice) → HeapFits h → ChoicesFit cs → length (logOf h cs) ≤ maxLog → Opens (logOf h cs)
 
 abbrev pub LogRecords : Type 0
-LogRecords = (h : Heap) (cs : List Choice) → ChoicesFit cs → (k : ℕ) → k < length cs → recordOf (logOf h cs) k ≡ rightOf (choiceOf cs k)
+LogRecords = (h : Heap) (cs : List Choice) → ChoicesFit cs → (k : ℕ) → k < length cs → recordOf (logOf h cs) k ≡ rightRecord (choiceOf cs k)
 
 abbrev pub LogChoices : Type 0
 LogChoices = (h : Heap) (cs : List Choice) → ChoicesFit cs → choicesOf (logOf h cs) (length cs) ≡ cs

@@ -1,6 +1,7 @@
 // The run over the records: each by the step of the state before it, until one stops it.
 use super::record;
 use super::record::Record;
+use base::Stop;
 use state::State;
 use state::acts;
 use state::acts::Setting;
@@ -9,7 +10,7 @@ ghost use Prim.Native.Nat.{_+_, _*_, _≤_};
 ghost use lib.ListN.{length};
 ghost use Rattle.header.specs.Header.{maxLog, sizeOf};
 ghost use Rattle.runlog.specs.Records.{recordSize};
-ghost use Rattle.runlog.specs.Runs.{endedOf, stoppedOf, runOf, closedOf, playedOf};
+ghost use Rattle.runlog.specs.Runs.{endedOf, stoppedOf, runThrough, closedOf, playedOf};
 
 // What a run has come to: the state, the records taken, and the stop, 0 while there is none.
 pub struct Run {
@@ -19,10 +20,6 @@ pub struct Run {
 }
 
 impl Run {
-    pub const WRONG_CHECK: u8 = 13;
-
-    pub const FEW_LEFT: u8 = 14;
-
     // A run that has come to this state, so many records taken.
     fn ended(state: State, steps: u32, stop: u8) -> Run
         ensures { λ r. ⌜ r ≡ endedOf state steps stop ⌝ }
@@ -46,17 +43,18 @@ impl Run {
             if left == 0 {
                 return self;
             }
-            return self.stopped(Run::FEW_LEFT);
+            return self.stopped(Stop::FEW_LEFT);
         }
         self
     }
 }
 
 // The run of so many records, from a place on. A wrong check comes before any refusal of that record.
-// The state is this function's own and changes in place, as far as the step reaches: a step that took and returned it would copy it whole at each record, which costs more than the step.
+// The state is this function's own and changes in place, as far as the step reaches: a step that took and returned it
+// would copy it whole at each record, which costs more than the step.
 fn records(log: &[u8], at: u32, start: State, whole: u32) -> Run
     requires { ⌜ (at + recordSize * whole ≤ length (now log)) × (length (now log) ≤ maxLog) ⌝ }
-    ensures { λ r. ⌜ r ≡ runOf (now (log .entry)) at start whole ⌝ }
+    ensures { λ r. ⌜ r ≡ runThrough (now (log .entry)) at start whole ⌝ }
 {
     let mut state = start;
     let mut steps: u32 = 0;
@@ -64,7 +62,7 @@ fn records(log: &[u8], at: u32, start: State, whole: u32) -> Run
         let r = record::read(log, at + Record::SIZE * steps);
         let c = r.choice;
         if r.check != record::check_of(c) {
-            return Run::ended(state, steps, Run::WRONG_CHECK);
+            return Run::ended(state, steps, Stop::WRONG_CHECK);
         }
         let p = c.process;
         let i = acts::seat(p);
@@ -81,11 +79,11 @@ fn records(log: &[u8], at: u32, start: State, whole: u32) -> Run
         }
         let j = acts::seat(c.x);
         let other = state.procs[j];
-        let h = state.hands;
+        let h = state.system;
         let set = Setting {
             cells: state.memory.cells,
             mutators: state::mutators(state.memory.processes),
-            hands: h,
+            system: h,
             up: acts::up(c.x, other),
         };
         if ask.changes() {
@@ -101,8 +99,8 @@ fn records(log: &[u8], at: u32, start: State, whole: u32) -> Run
         let g = engine::go(c, set, seen, q);
         let act = g.act;
         let next = g.process;
-        let hands = acts::handed(h, act);
-        state.hands = hands;
+        let system = acts::handed(h, act);
+        state.system = system;
         if acts::shakes(act) {
             let procs = state.procs;
             let shaken = acts::shaken(procs, act);

@@ -1,4 +1,5 @@
--- The loop that looks for the end of a line: after i turns the line goes on by i and by what the rest of the bytes says. Assumes nothing.
+-- The loop that looks for the end of a line: after i turns the line goes on by i and by what the rest of the bytes
+-- says. Assumes nothing.
 --     Going                 what the loop keeps
 --     rest-more             one byte more, which is no end of a line
 --     rest-found, rest-end  an end of a line; the end of the bytes

@@ -1,4 +1,5 @@
-// What the programs that run cases read of their stored input: digits, how far a line goes on, and a change of the ground.
+// What the programs that run cases read of their stored input: digits, how far a line goes on, and a change of the
+// ground.
 use header::bytes::byte;
 ghost use mathlib.Core.Path.{_≡_};
 ghost use Rattle.script.specs.Script.{digitAt, restOf, changeOf, numberOf};

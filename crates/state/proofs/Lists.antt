@@ -20,7 +20,7 @@ use Rattle.state.specs.declared.State.{State}
 use Rattle.state.specs.declared.acts.Act.{Act}
 use Rattle.state.specs.declared.acts.Act.the-variants as act
 use Rattle.state.specs.States.{noProcess, processOf}
-use Rattle.state.specs.Acts.{allOut, raisedOf, shakes, shakenOf, seatOf, upOf}
+use Rattle.state.specs.Acts.{outAt, allOut, raisedOf, shakes, shakenOf, seatOf, upOf}
 
 -- ---- an act
 pub unshaken : (l : List Process) (a : Act) → shakes a ≡ false → shakenOf l a ≡ l
@@ -30,7 +30,7 @@ unshaken l (act.Types k) e = absurd (false≢true (sym e))
 unshaken l (act.Raises x) e = absurd (false≢true (sym e))
 
 pub shaken-sized : (l : List Process) (a : Act) → length (shakenOf l a) ≡ length l
-unfolding allOut raisedOf
+unfolding outAt allOut raisedOf
 shaken-sized l act.Nothing = refl
 shaken-sized l (act.Lists w) = refl
 shaken-sized l (act.Types k) = simp length-set

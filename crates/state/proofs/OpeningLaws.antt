@@ -25,7 +25,7 @@ use Rattle.state.specs.declared.Process.{Process}
 use Rattle.state.specs.declared.opening.Heap.{Heap}
 use Rattle.state.specs.Codes.{top, noStage}
 use Rattle.state.specs.States.{noProcess, processOf}
-use Rattle.state.specs.Openings.{openMark, openMarks, openMemory, openCollector, openMutator, openProcess, openHands, rootsAt, openingOf}
+use Rattle.state.specs.Openings.{openMark, openMarks, openMemory, openCollector, openMutator, openProcess, openSystem, rootsAt, openingOf}
 use Rattle.state.specs.OpeningLaws.{IsMutator, OpensSenses, OpensMarks, OpensPhase, OpensBuffers, OpensLock, OpensType, OpensInStep, OpensSystemPhase, OpensMutatorPhase, OpensFlags, OpensSystemList, OpensLists, OpensTop, OpensRow1, OpensNoted, OpensGreying, OpensNobody, OpensCounts, OpensCells, OpensRoots}
 
 -- ---- the processes
@@ -111,7 +111,7 @@ opens-lock h = refl
 
 -- ---- handshakes
 pub opens-type : OpensType
-unfolding openingOf openHands
+unfolding openingOf openSystem
 opens-type h = refl
 
 pub opens-in-step : OpensInStep
@@ -119,7 +119,7 @@ unfolding openMutator
 opens-in-step = of-mutator (λ q. q .part .in_step ≡ true) (λ r. refl)
 
 pub opens-system-phase : OpensSystemPhase
-unfolding openingOf openHands
+unfolding openingOf openSystem
 opens-system-phase h = refl
 
 pub opens-mutator-phase : OpensMutatorPhase
@@ -132,7 +132,7 @@ opens-flags h = each-process h (λ q. q .part .raised ≡ false) refl (λ r. ref
 
 -- ---- processes
 pub opens-system-list : OpensSystemList
-unfolding openingOf openHands
+unfolding openingOf openSystem
 opens-system-list h = refl
 
 pub opens-lists : OpensLists

@@ -44,4 +44,4 @@ pub with-process-leaves : WithProcessLeaves
 with-process-leaves s p q = (refl, refl, length-set (s .procs) p q)
 
 pub with-process-past : WithProcessPast
-with-process-past s p q l = ap (λ (qs : List Process). record { memory = s .memory; procs = qs; hands = s .hands }) (set-out (s .procs) p q l)
+with-process-past s p q l = ap (λ (qs : List Process). record { memory = s .memory; procs = qs; system = s .system }) (set-out (s .procs) p q l)

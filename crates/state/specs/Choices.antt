@@ -1,4 +1,5 @@
--- Which arguments of a choice a place uses: "an argument this place doesn't use isn't zero, or one it uses isn't offered". Assumes nothing.
+-- Which arguments of a choice a place uses: "an argument this place doesn't use isn't zero, or one it uses isn't
+-- offered". Assumes nothing.
 use mathlib.Core.Bool.{Bool}
 use Prim.Native.Nat.{ℕ}
 use lib.Dec.{eqb}
@@ -15,7 +16,8 @@ isOfX c = eqb (c .f) 0 and eqb (c .y) 0
 unfoldable pub isBare : Choice → Bool
 isBare c = eqb (c .x) 0 and isOfX c
 
--- elsewhere the operation is unused too: a place that uses nothing; one that uses x alone, and offers the numbers of the set
+-- elsewhere the operation is unused too: a place that uses nothing; one that uses x alone, and offers the numbers of
+-- the set
 unfoldable pub isBlank : Choice → Bool
 isBlank c = eqb (c .op) 0 and isBare c
 

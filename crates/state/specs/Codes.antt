@@ -1,21 +1,5 @@
--- The refusal numbers, the places and the stages, by name. Assumes nothing.
+-- The places and the stages, by name. Assumes nothing.
 use Prim.Native.Nat.{ℕ}
-
--- ---- "When the judge says no": the numbers that are not memory's own
-abbrev pub malformed : ℕ
-malformed = 1
-
-abbrev pub notThere : ℕ
-notThere = 2
-
-abbrev pub noSuchKind : ℕ
-noSuchKind = 3
-
-abbrev pub notOffered : ℕ
-notOffered = 4
-
-abbrev pub flagDown : ℕ
-flagDown = 6
 
 -- ---- the places of a mutator's program
 abbrev pub top : ℕ

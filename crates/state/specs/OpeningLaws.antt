@@ -1,5 +1,6 @@
--- "Opening: fM, fA and all marks of occupied cells 1, phase Idle, type roots, all in step, all handshake phases IdleMarkSweep, flags down, buffers and lists empty,
--- lock free, mutators at top, collector at row 1." Each phrase is a law of `openingOf`, and so is what the heap gives. Assumes nothing.
+-- "Opening: fM, fA and all marks of occupied cells 1, phase Idle, type roots, all in step, all handshake phases
+-- IdleMarkSweep, flags down, buffers and lists empty, lock free, mutators at top, collector at row 1." Each phrase is
+-- a law of `openingOf`, and so is what the heap gives. Assumes nothing.
 use mathlib.Core.Path.{_≡_}
 use mathlib.Core.Bool.{true, false}
 use mathlib.Core.List.{[]}
@@ -9,7 +10,7 @@ use Rattle.buffers.specs.declared.Phase.the-variants as phase
 use Rattle.buffers.specs.Buffers.{pendingOf}
 use Rattle.memory.specs.Memories.{maxCells, maxProcesses, usedOf, markOf, bufferOf}
 use Rattle.state.specs.declared.Handshake.the-variants as hand
-use Rattle.state.specs.declared.Kind.the-variants as kind
+use Rattle.state.specs.declared.RoundType.the-variants as round
 use Rattle.state.specs.declared.opening.Heap.{Heap}
 use Rattle.state.specs.Codes.{top, row1Round, noStage, fenceStage}
 use Rattle.state.specs.States.{noProcess, processOf}
@@ -45,7 +46,7 @@ OpensLock = (h : Heap) → openingOf h .memory .lock ≡ 0
 -- ---- handshakes
 -- "type roots"
 abbrev pub OpensType : Type 0
-OpensType = (h : Heap) → openingOf h .hands .kind ≡ kind.Roots
+OpensType = (h : Heap) → openingOf h .system .kind ≡ round.Roots
 
 -- "all in step"
 abbrev pub OpensInStep : Type 0
@@ -53,7 +54,7 @@ OpensInStep = (h : Heap) (p : ℕ) → IsMutator h p → processOf (openingOf h)
 
 -- "all handshake phases IdleMarkSweep": the system's, and each mutator's
 abbrev pub OpensSystemPhase : Type 0
-OpensSystemPhase = (h : Heap) → openingOf h .hands .phase ≡ hand.IdleMarkSweep
+OpensSystemPhase = (h : Heap) → openingOf h .system .phase ≡ hand.IdleMarkSweep
 
 abbrev pub OpensMutatorPhase : Type 0
 OpensMutatorPhase = (h : Heap) (p : ℕ) → IsMutator h p → processOf (openingOf h) p .part .phase ≡ hand.IdleMarkSweep
@@ -65,7 +66,7 @@ OpensFlags = (h : Heap) (p : ℕ) → processOf (openingOf h) p .part .raised �
 -- ---- processes
 -- "lists empty": the system's, and each process's
 abbrev pub OpensSystemList : Type 0
-OpensSystemList = (h : Heap) → openingOf h .hands .work ≡ noCells
+OpensSystemList = (h : Heap) → openingOf h .system .work ≡ noCells
 
 abbrev pub OpensLists : Type 0
 OpensLists = (h : Heap) (p : ℕ) → processOf (openingOf h) p .work ≡ noCells

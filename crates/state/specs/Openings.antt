@@ -1,5 +1,6 @@
--- "Opening: fM, fA and all marks of occupied cells 1, phase Idle, type roots, all in step, all handshake phases IdleMarkSweep, flags down, buffers and lists
--- empty, lock free, mutators at top, collector at row 1." What belongs to no process is zero, and so is the collector's noted fM. Assumes nothing.
+-- "Opening: fM, fA and all marks of occupied cells 1, phase Idle, type roots, all in step, all handshake phases
+-- IdleMarkSweep, flags down, buffers and lists empty, lock free, mutators at top, collector at row 1." What belongs
+-- to no process is zero, and so is the collector's noted fM. Assumes nothing.
 use mathlib.Core.Bool.{Bool, true, false}
 use Prim.Native.Nat.{ℕ, _+_}
 use mathlib.Core.List.{List, [], _∷_}
@@ -12,9 +13,9 @@ use Rattle.buffers.specs.Buffers.{emptyBuffer}
 use Rattle.memory.specs.declared.Memory.{Memory}
 use Rattle.memory.specs.Memories.{maxCells, maxProcesses}
 use Rattle.state.specs.declared.Handshake.the-variants as hand
-use Rattle.state.specs.declared.Kind.the-variants as kind
+use Rattle.state.specs.declared.RoundType.the-variants as round
 use Rattle.state.specs.declared.Process.{Process}
-use Rattle.state.specs.declared.Hands.{Hands}
+use Rattle.state.specs.declared.System.{System}
 use Rattle.state.specs.declared.State.{State}
 use Rattle.state.specs.declared.opening.Heap.{Heap}
 use Rattle.state.specs.Codes.{row1Round, fenceStage}
@@ -44,8 +45,8 @@ unfoldable pub openProcess : Heap → ℕ → ℕ → Process
 openProcess h p roots = pick (ltb p (h .processes)) (openMutator roots) noProcess
 
 -- "type roots, .. all handshake phases IdleMarkSweep, .. lists empty"
-unfoldable pub openHands : Hands
-openHands = record { kind = kind.Roots; phase = hand.IdleMarkSweep; work = 0 }
+unfoldable pub openSystem : System
+openSystem = record { kind = round.Roots; phase = hand.IdleMarkSweep; work = 0 }
 
 -- the roots of mutator i + 1
 abbrev pub rootsAt : Heap → ℕ → ℕ
@@ -56,5 +57,5 @@ openingOf h =
     record {
       memory = openMemory h;
       procs = openCollector ∷ openProcess h 1 (rootsAt h 0) ∷ openProcess h 2 (rootsAt h 1) ∷ openProcess h 3 (rootsAt h 2) ∷ openProcess h 4 (rootsAt h 3) ∷ [];
-      hands = openHands;
+      system = openSystem;
     }

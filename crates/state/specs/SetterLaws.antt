@@ -6,9 +6,9 @@ use lib.ListN.{length}
 use Rattle.memory.specs.declared.Memory.{Memory}
 use Rattle.state.specs.declared.Handshake.{Handshake}
 use Rattle.state.specs.declared.Process.{Process}
-use Rattle.state.specs.declared.Hands.{Hands}
+use Rattle.state.specs.declared.System.{System}
 use Rattle.state.specs.declared.State.{State}
-use Rattle.state.specs.States.{at, noting, leaving, marking, listing, shaking, processOf, withProcess, withMemory, withHands}
+use Rattle.state.specs.States.{at, noting, leaving, marking, listing, shaking, processOf, withProcess, withMemory, withSystem}
 
 -- ---- a process's fields, in the groups that are set together
 -- "place in its program"
@@ -75,13 +75,13 @@ abbrev pub WithMemoryLaw : Type 0
 WithMemoryLaw =
     (s : State) (m : Memory) →
     let t = withMemory s m in
-    (t .memory ≡ m) × (t .procs ≡ s .procs) × (t .hands ≡ s .hands)
+    (t .memory ≡ m) × (t .procs ≡ s .procs) × (t .system ≡ s .system)
 
 abbrev pub WithHandsLaw : Type 0
 WithHandsLaw =
-    (s : State) (h : Hands) →
-    let t = withHands s h in
-    (t .memory ≡ s .memory) × (t .procs ≡ s .procs) × (t .hands ≡ h)
+    (s : State) (h : System) →
+    let t = withSystem s h in
+    (t .memory ≡ s .memory) × (t .procs ≡ s .procs) × (t .system ≡ h)
 
 -- ---- the state: one process. It is there now, the others are as before, and so is all else
 abbrev pub WithProcessHere : Type 0
@@ -94,7 +94,7 @@ abbrev pub WithProcessLeaves : Type 0
 WithProcessLeaves =
     (s : State) (p : ℕ) (q : Process) →
     let t = withProcess s p q in
-    (t .memory ≡ s .memory) × (t .hands ≡ s .hands) × (length (t .procs) ≡ length (s .procs))
+    (t .memory ≡ s .memory) × (t .system ≡ s .system) × (length (t .procs) ≡ length (s .procs))
 
 -- past the last process nothing changes
 abbrev pub WithProcessPast : Type 0

@@ -1,15 +1,16 @@
--- The state read and changed. antt has no update of a record: here is one setter for each field or group of fields. Assumes nothing.
+-- The state read and changed. antt has no update of a record: here is one setter for each field or group of fields.
+-- Assumes nothing.
 use mathlib.Core.Bool.{Bool, false}
 use Prim.Native.Nat.{ℕ, _-_}
 use lib.ListN.{getD, set}
 use Rattle.memory.specs.declared.Memory.{Memory}
 use Rattle.state.specs.declared.Handshake.{Handshake}
 use Rattle.state.specs.declared.Handshake.the-variants as hand
-use Rattle.state.specs.declared.Kind.{Kind}
-use Rattle.state.specs.declared.Kind.the-variants as kind
+use Rattle.state.specs.declared.RoundType.{RoundType}
+use Rattle.state.specs.declared.RoundType.the-variants as round
 use Rattle.state.specs.declared.Part.{Part}
 use Rattle.state.specs.declared.Process.{Process}
-use Rattle.state.specs.declared.Hands.{Hands}
+use Rattle.state.specs.declared.System.{System}
 use Rattle.state.specs.declared.State.{State}
 use Rattle.state.specs.declared.Answer.{Answer}
 
@@ -29,10 +30,10 @@ phaseNumber hand.Mark = 3
 phaseNumber hand.IdleMarkSweep = 4
 
 -- "type (no-op, roots, work)"
-abbrev pub typeNumber : Kind → ℕ
-typeNumber kind.Noop = 0
-typeNumber kind.Roots = 1
-typeNumber kind.Work = 2
+abbrev pub typeNumber : RoundType → ℕ
+typeNumber round.Noop = 0
+typeNumber round.Roots = 1
+typeNumber round.Work = 2
 
 -- ---- a process: nobody, and one with some of its fields replaced
 abbrev pub noPart : Part
@@ -77,13 +78,13 @@ abbrev pub processOf : State → ℕ → Process
 processOf s p = getD (s .procs) p noProcess
 
 abbrev pub withProcess : State → ℕ → Process → State
-withProcess s p q = record { memory = s .memory; procs = set (s .procs) p q; hands = s .hands }
+withProcess s p q = record { memory = s .memory; procs = set (s .procs) p q; system = s .system }
 
 abbrev pub withMemory : State → Memory → State
-withMemory s m = record { memory = m; procs = s .procs; hands = s .hands }
+withMemory s m = record { memory = m; procs = s .procs; system = s .system }
 
-abbrev pub withHands : State → Hands → State
-withHands s h = record { memory = s .memory; procs = s .procs; hands = h }
+abbrev pub withSystem : State → System → State
+withSystem s h = record { memory = s .memory; procs = s .procs; system = h }
 
 -- ---- answers: "A step refusal returns the number and the same state."
 abbrev pub refusedOf : ℕ → State → Answer

@@ -1,12 +1,16 @@
-// How a step goes on once memory has taken it: its process after it, and what it does to the system's part in the handshakes and to the mutators' parts.
-use super::Hands;
+// How a step goes on once memory has taken it: its process after it, and what it does to the system's part in the
+// handshakes and to the mutators' parts.
 use super::Handshake;
-use super::Kind;
 use super::Part;
 use super::Process;
+use super::RoundType;
 use super::State;
+use super::System;
+use memory::Memory;
 ghost use mathlib.Core.Path.{_≡_};
-ghost use Rattle.state.specs.Acts.{goingOn, goingWith, advanceOf, typed, listed, handedOf, steppedOut, allOut, flagged, raisedOf, shakes, shakenOf, wentOf, settingOf, seatOf, upOf};
+ghost use Prim.Native.Nat.{_<_};
+ghost use Rattle.memory.specs.Memories.{maxProcesses};
+ghost use Rattle.state.specs.Acts.{goingOn, goingWith, advanceOf, typed, withWork, handedOf, steppedOut, outAt, allOut, flagUp, raisedOf, shakes, shakenOf, wentOf, settingOf, seatOf, upOf};
 
 // What a step does besides memory and its own process.
 pub enum Act {
@@ -14,7 +18,7 @@ pub enum Act {
     // the system's work list becomes this one
     Lists(u64),
     // "set type (all in-step bits off; ..)"
-    Types(Kind),
+    Types(RoundType),
     // mutator x's flag goes up
     Raises(u8),
 }
@@ -24,11 +28,12 @@ pub struct Going {
     pub act: Act,
 }
 
-// What a step may know besides its own process and what it saw: N, M, the system's part, and whether the flag of the mutator that x names is up.
+// What a step may know besides its own process and what it saw: N, M, the system's part, and whether the flag of the
+// mutator that x names is up.
 pub struct Setting {
     pub cells: u8,
     pub mutators: u8,
-    pub hands: Hands,
+    pub system: System,
     pub up: bool,
 }
 
@@ -49,24 +54,24 @@ impl Going {
     }
 }
 
-// "the system's handshake phase advances for no-op and roots"
-fn advance(kind: Kind, phase: Handshake) -> Handshake
+// The phase after a round of that type: it "advances for no-op and roots".
+pub fn advance(kind: RoundType, phase: Handshake) -> Handshake
     ensures { λ r. ⌜ r ≡ advanceOf kind phase ⌝ }
 {
     match kind {
-        Kind::Noop => phase.next(),
-        Kind::Roots => phase.next(),
-        Kind::Work => phase,
+        RoundType::Noop => phase.next(),
+        RoundType::Roots => phase.next(),
+        RoundType::Work => phase,
     }
 }
 
 // The system's part once the type is set: its work list stays.
-fn typed(h: Hands, kind: Kind) -> Hands
+fn typed(h: System, kind: RoundType) -> System
     ensures { λ r. ⌜ r ≡ typed h kind ⌝ }
 {
     let phase = h.phase;
     let next = advance(kind, phase);
-    Hands {
+    System {
         kind,
         phase: next,
         work: h.work,
@@ -74,20 +79,20 @@ fn typed(h: Hands, kind: Kind) -> Hands
 }
 
 // The system's part with another work list.
-fn listed(mut h: Hands, work: u64) -> Hands
-    ensures { λ r. ⌜ r ≡ listed h work ⌝ }
+fn with_work(mut h: System, work: u64) -> System
+    ensures { λ r. ⌜ r ≡ withWork h work ⌝ }
 {
     h.work = work;
     h
 }
 
 // The system's part after the act.
-pub fn handed(h: Hands, act: Act) -> Hands
+pub fn handed(h: System, act: Act) -> System
     ensures { λ r. ⌜ r ≡ handedOf h act ⌝ }
 {
     match act {
         Act::Nothing => h,
-        Act::Lists(work) => listed(h, work),
+        Act::Lists(work) => with_work(h, work),
         Act::Types(kind) => typed(h, kind),
         Act::Raises(x) => h,
     }
@@ -108,20 +113,25 @@ fn stepped_out(mut q: Process) -> Process
     q
 }
 
-// "all in-step bits off"
-fn all_out(mut procs: [Process; State::PROCESSES]) -> [Process; State::PROCESSES]
-    ensures { λ r. ⌜ r ≡ allOut procs ⌝ }
+// The processes with that mutator's in-step bit off.
+fn out_at(mut procs: [Process; Memory::PROCESSES], i: usize) -> [Process; Memory::PROCESSES]
+    requires { ⌜ i < maxProcesses ⌝ }
+    ensures { λ r. ⌜ r ≡ outAt procs i ⌝ }
 {
-    procs[1] = stepped_out(procs[1]);
-    procs[2] = stepped_out(procs[2]);
-    procs[3] = stepped_out(procs[3]);
-    procs[4] = stepped_out(procs[4]);
+    procs[i] = stepped_out(procs[i]);
     procs
 }
 
+// "all in-step bits off"
+fn all_out(procs: [Process; Memory::PROCESSES]) -> [Process; Memory::PROCESSES]
+    ensures { λ r. ⌜ r ≡ allOut procs ⌝ }
+{
+    out_at(out_at(out_at(out_at(procs, 1), 2), 3), 4)
+}
+
 // The mutator with its flag up.
-fn flagged(mut q: Process) -> Process
-    ensures { λ r. ⌜ r ≡ flagged q ⌝ }
+fn flag_up(mut q: Process) -> Process
+    ensures { λ r. ⌜ r ≡ flagUp q ⌝ }
 {
     let old = q.part;
     let phase = old.phase;
@@ -135,14 +145,14 @@ fn flagged(mut q: Process) -> Process
 }
 
 // Mutator x's flag goes up; a number past the last is nobody's.
-fn raised(mut procs: [Process; State::PROCESSES], x: u8) -> [Process; State::PROCESSES]
+fn raised(mut procs: [Process; Memory::PROCESSES], x: u8) -> [Process; Memory::PROCESSES]
     ensures { λ r. ⌜ r ≡ raisedOf procs x ⌝ }
 {
     let i = x as usize;
-    if State::PROCESSES <= i {
+    if Memory::PROCESSES <= i {
         return procs;
     }
-    procs[i] = flagged(procs[i]);
+    procs[i] = flag_up(procs[i]);
     procs
 }
 
@@ -159,7 +169,7 @@ pub fn shakes(act: Act) -> bool
 }
 
 // The processes after the act.
-pub fn shaken(procs: [Process; State::PROCESSES], act: Act) -> [Process; State::PROCESSES]
+pub fn shaken(procs: [Process; Memory::PROCESSES], act: Act) -> [Process; Memory::PROCESSES]
     ensures { λ r. ⌜ r ≡ shakenOf procs act ⌝ }
 {
     match act {
@@ -177,11 +187,11 @@ impl State {
     {
         let act = g.act;
         let q = g.process;
-        let h = self.hands;
+        let h = self.system;
         let procs = self.procs;
-        let hands = handed(h, act);
+        let system = handed(h, act);
         let after = shaken(procs, act);
-        self.hands = hands;
+        self.system = system;
         self.procs = after;
         self.with_process(p, q)
     }
@@ -190,13 +200,13 @@ impl State {
         ensures { λ r. ⌜ r ≡ settingOf self x ⌝ }
     {
         let m = self.memory;
-        let h = self.hands;
+        let h = self.system;
         let other = self.process(x);
         let part = other.part;
         Setting {
             cells: m.cells,
             mutators: super::mutators(m.processes),
-            hands: h,
+            system: h,
             up: part.raised,
         }
     }
@@ -207,7 +217,7 @@ pub fn seat(p: u8) -> usize
     ensures { λ r. ⌜ r ≡ seatOf p ⌝ }
 {
     let i = p as usize;
-    if State::PROCESSES <= i {
+    if Memory::PROCESSES <= i {
         return 0;
     }
     i

@@ -1,7 +1,9 @@
 // The whole state: memory, processes and handshakes, by value; what a step reads of it and how it changes it.
+use base::Refusal;
 use memory::Memory;
 
 pub mod acts;
+pub mod codes;
 pub mod opening;
 
 ghost use mathlib.Core.Path.{_≡_};
@@ -18,7 +20,7 @@ pub enum Handshake {
 }
 
 // A handshake's type: "no-op, roots, work".
-pub enum Kind {
+pub enum RoundType {
     Noop,
     Roots,
     Work,
@@ -55,16 +57,16 @@ pub struct Process {
 }
 
 // The system's part: type, handshake phase, work list.
-pub struct Hands {
-    pub kind: Kind,
+pub struct System {
+    pub kind: RoundType,
     pub phase: Handshake,
     pub work: u64,
 }
 
 pub struct State {
     pub memory: Memory,
-    pub procs: [Process; State::PROCESSES],
-    pub hands: Hands,
+    pub procs: [Process; Memory::PROCESSES],
+    pub system: System,
 }
 
 // What a record asks for: process, kind, operation, x, f, y.
@@ -83,123 +85,13 @@ pub struct Answer {
     pub state: State,
 }
 
-impl Answer {
-    pub const TAKEN: u8 = 0;
-
-    pub const MALFORMED: u8 = 1;
-
-    pub const NO_PROCESS: u8 = 2;
-
-    pub const NO_KIND: u8 = 3;
-
-    pub const NOT_OFFERED: u8 = 4;
-
-    pub const FLAG_DOWN: u8 = 6;
-}
-
 impl Choice {
     pub const OWN: u8 = 0;
 
     pub const COMMIT: u8 = 1;
-}
 
-// The places of a mutator's program.
-impl Process {
-    pub const TOP: u8 = 0;
-
-    pub const STORE_MARK_OLD: u8 = 1;
-
-    pub const STORE_MARK_Y: u8 = 2;
-
-    pub const STORE_WRITE: u8 = 3;
-
-    pub const NOOP_FENCE: u8 = 4;
-
-    pub const NOOP_FINISH: u8 = 5;
-
-    pub const ROOTS_FENCE: u8 = 6;
-
-    pub const ROOTS_MARK: u8 = 7;
-
-    pub const ROOTS_FINISH: u8 = 8;
-
-    pub const WORK_FENCE: u8 = 9;
-
-    pub const WORK_FINISH: u8 = 10;
-}
-
-// The places of the collector's program: the rows of document 01's table.
-impl Process {
-    pub const ROW1_ROUND: u8 = 11;
-
-    pub const ROW2_READ: u8 = 12;
-
-    pub const ROW2_WRITE: u8 = 13;
-
-    pub const ROW3_ROUND: u8 = 14;
-
-    pub const ROW4_WRITE: u8 = 15;
-
-    pub const ROW4_ROUND: u8 = 16;
-
-    pub const ROW5_PHASE: u8 = 17;
-
-    pub const ROW5_ALLOC: u8 = 18;
-
-    pub const ROW5_ROUND: u8 = 19;
-
-    pub const ROW6_ROUND: u8 = 20;
-
-    pub const ROW6_TAKE: u8 = 21;
-
-    pub const ROW7_READ0: u8 = 22;
-
-    pub const ROW7_MARK0: u8 = 23;
-
-    pub const ROW7_READ1: u8 = 24;
-
-    pub const ROW7_MARK1: u8 = 25;
-
-    pub const ROW7_DROP: u8 = 26;
-
-    pub const ROW8_ROUND: u8 = 27;
-
-    pub const ROW8_TAKE: u8 = 28;
-
-    pub const ROW9_WRITE: u8 = 29;
-
-    pub const ROW10_LOOK: u8 = 30;
-
-    pub const ROW10_FREE: u8 = 31;
-
-    pub const ROW11_WRITE: u8 = 32;
-}
-
-// The stages of a mark and of a round; 0 where there is neither.
-impl Process {
-    pub const NO_STAGE: u8 = 0;
-
-    pub const LOOK: u8 = 1;
-
-    pub const SENSE: u8 = 2;
-
-    pub const PHASE: u8 = 3;
-
-    pub const LOCK: u8 = 4;
-
-    pub const AGAIN: u8 = 5;
-
-    pub const WRITE: u8 = 6;
-
-    pub const UNLOCK: u8 = 7;
-
-    pub const FENCE: u8 = 1;
-
-    pub const TYPE: u8 = 2;
-
-    pub const RAISE: u8 = 3;
-
-    pub const POLL: u8 = 4;
+    // a kind from here on is none
+    pub const BEYOND: u8 = 2;
 }
 
 impl State {
@@ -208,9 +100,6 @@ impl State {
 
     // a heap's root sets, one for each mutator that there can be
     pub const ROOT_SETS: usize = 4;
-
-    // with the collector
-    pub const PROCESSES: usize = 5;
 }
 
 impl Handshake {
@@ -241,15 +130,15 @@ impl Handshake {
     }
 }
 
-impl Kind {
+impl RoundType {
     // The type's number in the order of document 01, from 0.
     pub fn number(self) -> u8
         ensures { λ r. ⌜ r ≡ typeNumber self ⌝ }
     {
         match self {
-            Kind::Noop => 0,
-            Kind::Roots => 1,
-            Kind::Work => 2,
+            RoundType::Noop => 0,
+            RoundType::Roots => 1,
+            RoundType::Work => 2,
         }
     }
 }
@@ -350,7 +239,7 @@ impl State {
         ensures { λ r. ⌜ r ≡ processOf self p ⌝ }
     {
         let i = p as usize;
-        if State::PROCESSES <= i {
+        if Memory::PROCESSES <= i {
             return Process::nobody();
         }
         self.procs[i]
@@ -361,7 +250,7 @@ impl State {
         ensures { λ r. ⌜ r ≡ withProcess self p q ⌝ }
     {
         let i = p as usize;
-        if State::PROCESSES <= i {
+        if Memory::PROCESSES <= i {
             return self;
         }
         self.procs[i] = q;
@@ -380,7 +269,7 @@ impl State {
         ensures { λ r. ⌜ r ≡ takenOf self ⌝ }
     {
         Answer {
-            no: Answer::TAKEN,
+            no: Refusal::TAKEN,
             state: self,
         }
     }

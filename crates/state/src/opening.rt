@@ -1,18 +1,21 @@
 // The opening state of a checked heap.
-use super::Hands;
 use super::Handshake;
-use super::Kind;
 use super::Part;
 use super::Process;
+use super::RoundType;
 use super::State;
+use super::System;
+use super::codes::Place;
+use super::codes::RoundStage;
 use buffers::Buffer;
 use buffers::Phase;
 use memory::Memory;
-use memory::Standing;
+use memory::PhaseWord;
 ghost use mathlib.Core.Path.{_≡_};
-ghost use Rattle.state.specs.Openings.{openMarks, openMemory, openCollector, openMutator, openProcess, openHands, openingOf};
+ghost use Rattle.state.specs.Openings.{openMarks, openMemory, openCollector, openMutator, openProcess, openSystem, openingOf};
 
-// An opening heap: N, the number of processes M + 1, the occupied cells, their fields, and each mutator's roots, mutator 1 first.
+// An opening heap: N, the number of processes M + 1, the occupied cells, their fields, and each mutator's roots,
+// mutator 1 first.
 pub struct Heap {
     pub cells: u8,
     pub processes: u8,
@@ -43,7 +46,7 @@ fn memory(h: Heap) -> Memory
     let marks = marks(h.used);
     let field0 = h.field0;
     let field1 = h.field1;
-    let phase = Standing { phase: Phase::Idle };
+    let phase = PhaseWord { phase: Phase::Idle };
     let buffers = [b; Memory::PROCESSES];
     Memory {
         cells: h.cells,
@@ -65,8 +68,8 @@ fn collector() -> Process
     ensures { λ r. ⌜ r ≡ openCollector ⌝ }
 {
     let mut q = Process::nobody();
-    q.place = Process::ROW1_ROUND;
-    q.stage = Process::FENCE;
+    q.place = Place::ROW1_ROUND;
+    q.stage = RoundStage::FENCE;
     q
 }
 
@@ -96,11 +99,11 @@ fn process(h: Heap, p: u8, roots: u64) -> Process
 }
 
 // "type roots, .. all handshake phases IdleMarkSweep, .. lists empty"
-fn hands() -> Hands
-    ensures { λ r. ⌜ r ≡ openHands ⌝ }
+fn system() -> System
+    ensures { λ r. ⌜ r ≡ openSystem ⌝ }
 {
-    Hands {
-        kind: Kind::Roots,
+    System {
+        kind: RoundType::Roots,
         phase: Handshake::IdleMarkSweep,
         work: 0,
     }
@@ -111,7 +114,7 @@ impl State {
         ensures { λ r. ⌜ r ≡ openingOf h ⌝ }
     {
         let memory = memory(h);
-        let hands = hands();
+        let system = system();
         let c = collector();
         let m1 = process(h, 1, h.roots[0]);
         let m2 = process(h, 2, h.roots[1]);
@@ -121,7 +124,7 @@ impl State {
         State {
             memory,
             procs,
-            hands,
+            system,
         }
     }
 }

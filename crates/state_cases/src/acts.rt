@@ -1,11 +1,13 @@
-// What is changed of the ground, by a letter: the process p, the cell c, the field f and the value v are its digits. What is named cf is a number of two digits.
+// What is changed of the ground, by a letter: the process p, the cell c, the field f and the value v are its digits.
+// What is named cf is a number of two digits.
 // Any other letter changes nothing: a slip in the input then shows as a yes.
 // In a process:
 //     P p c f v   is at the place cf and the stage v, with notes that fit      S p . . v   has the stage
 //     X, F, Y, O, C, G p . . v   has the note x, f, y, old, cell, grey      N p . . v   has the noted fM
-//     L, W, R p . . v   has left, list, roots, each a set as a number      U, I, H p   has of the handshakes the flag raised, in step, the phase Mark alone
-// In memory:
-//     n . c f v   has cf cells and v processes, no cell occupied and no roots      l . . . v   has the lock's number      u . c f .   has the occupied cells as the number cf
+//     L, W, R p . . v   has left, list, roots, each a set as a number      U, I, H p   has of the handshakes the flag
+//                       raised, in step, the phase Mark alone In memory:
+//     n . c f v   has cf cells and v processes, no cell occupied and no roots      l . . . v   has the lock's number
+//                 u . c f .   has the occupied cells as the number cf
 //     k . c f .   has the mark of cell cf on      d p c f v   has the field p of cell cf
 // In p's buffer:
 //     b p . . v   has the length v      e p . . v   has eight stores of fM, and the length v
@@ -181,9 +183,9 @@ fn in_memory(m: Memory, a: Change) -> Memory {
 // ---- the state
 
 fn listed(mut s: State, cells: u64) -> State {
-    let mut h = s.hands;
+    let mut h = s.system;
     h.work = cells;
-    s.hands = h;
+    s.system = h;
     s
 }
 

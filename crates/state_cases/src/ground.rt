@@ -20,7 +20,7 @@ pub(crate) fn ground() -> State {
 }
 
 pub(crate) fn answer(s: State) {
-    if fits::well_formed(s) {
+    if formed::well_formed(s) {
         io::write_all(1, b"yes");
     } else {
         io::write_all(1, b"no");

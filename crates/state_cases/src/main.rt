@@ -1,6 +1,7 @@
-// Refusal 1, clause by clause: for each place and stage a well-formed state there, and that state with one note out of range (`places`); then every other clause broken alone.
-// These are the program's input, the file stdin beside src/, one to a line: a name, and the changes of the ground that give its state. The answer is whether it is well formed;
-// the file stdout has what document 01 wants.
+// Refusal 1, clause by clause: for each place and stage a well-formed state there, and that state with one note out
+// of range (`places`); then every other clause broken alone.
+// These are the program's input, the file stdin beside src/, one to a line: a name, and the changes of the ground
+// that give its state. The answer is whether it is well formed; the file stdout has what document 01 wants.
 mod acts;
 mod ground;
 mod places;
@@ -16,7 +17,8 @@ fn echo(s: &[u8]) {
     }
 }
 
-// What stands first in the text: + a change; ? the answer, after which the ground is as before; a semicolon, behind which is why the cases below it are there; else a byte of a line.
+// What stands first in the text: + a change; ? the answer, after which the ground is as before; a semicolon, behind
+// which is why the cases below it are there; else a byte of a line.
 fn turn(s: State, text: &[u8]) -> State {
     let b = byte(text, 0);
     match b {

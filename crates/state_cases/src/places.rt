@@ -2,21 +2,24 @@
 use super::acts;
 use super::ground;
 use state::Process;
+use state::codes::MarkStage;
+use state::codes::Place;
+use state::codes::RoundStage;
 
 // The stages of a place: a mark's seven, a round's four, or none.
 fn stages(place: u8) -> u8 {
     match place {
-        Process::STORE_MARK_OLD
-        | Process::STORE_MARK_Y
-        | Process::ROOTS_MARK
-        | Process::ROW7_MARK0
-        | Process::ROW7_MARK1 => 7,
-        Process::ROW1_ROUND
-        | Process::ROW3_ROUND
-        | Process::ROW4_ROUND
-        | Process::ROW5_ROUND
-        | Process::ROW6_ROUND
-        | Process::ROW8_ROUND => 4,
+        Place::STORE_MARK_OLD
+        | Place::STORE_MARK_Y
+        | Place::ROOTS_MARK
+        | Place::ROW7_MARK0
+        | Place::ROW7_MARK1 => 7,
+        Place::ROW1_ROUND
+        | Place::ROW3_ROUND
+        | Place::ROW4_ROUND
+        | Place::ROW5_ROUND
+        | Place::ROW6_ROUND
+        | Place::ROW8_ROUND => 4,
         _ => 0,
     }
 }
@@ -24,12 +27,12 @@ fn stages(place: u8) -> u8 {
 // The notes of the operation or the row, and what is left.
 fn noted(mut q: Process, place: u8) -> Process {
     match place {
-        Process::STORE_MARK_OLD | Process::STORE_MARK_Y | Process::STORE_WRITE => return stored(q),
-        Process::ROOTS_MARK => q.left = 5,
-        Process::ROW7_MARK0 | Process::ROW7_READ1 | Process::ROW7_MARK1 | Process::ROW7_DROP =>
+        Place::STORE_MARK_OLD | Place::STORE_MARK_Y | Place::STORE_WRITE => return stored(q),
+        Place::ROOTS_MARK => q.left = 5,
+        Place::ROW7_MARK0 | Place::ROW7_READ1 | Place::ROW7_MARK1 | Place::ROW7_DROP =>
             return scanned(q),
-        Process::ROW10_LOOK => q.left = 7,
-        Process::ROW10_FREE => {
+        Place::ROW10_LOOK => q.left = 7,
+        Place::ROW10_FREE => {
             q.x = 1;
             q.left = 6;
         }
@@ -55,30 +58,31 @@ fn scanned(mut q: Process) -> Process {
 // The cell that a mark notes for itself.
 fn own(place: u8) -> u8 {
     match place {
-        Process::ROOTS_MARK | Process::ROW7_MARK0 | Process::ROW7_MARK1 => 2,
+        Place::ROOTS_MARK | Place::ROW7_MARK0 | Place::ROW7_MARK1 => 2,
         _ => 0,
     }
 }
 
 // The cell being marked.
 fn marked(place: u8) -> u8 {
-    if place == Process::STORE_MARK_OLD {
+    if place == Place::STORE_MARK_OLD {
         return 3;
     }
     2
 }
 
-// The notes of a mark at its stage: the first look from the second, the sense from the third, the cell being greyed at the seventh.
+// The notes of a mark at its stage: the first look from the second, the sense from the third, the cell being greyed
+// at the seventh.
 fn marking(mut q: Process, place: u8, stage: u8) -> Process {
     q.cell = own(place);
-    if place == Process::ROOTS_MARK {
-        if stage == Process::LOOK {
+    if place == Place::ROOTS_MARK {
+        if stage == MarkStage::LOOK {
             q.cell = 0;
         }
     }
-    q.look = Process::SENSE <= stage;
-    q.sense = Process::PHASE <= stage;
-    if stage == Process::UNLOCK {
+    q.look = MarkStage::SENSE <= stage;
+    q.sense = MarkStage::PHASE <= stage;
+    if stage == MarkStage::UNLOCK {
         q.grey = marked(place);
     }
     q
@@ -95,7 +99,7 @@ pub(crate) fn fitting(place: u8, stage: u8) -> Process {
         return marking(q, place, stage);
     }
     if n == 4 {
-        if Process::RAISE <= stage {
+        if RoundStage::RAISE <= stage {
             q.left = 3;
         }
     }
@@ -104,7 +108,7 @@ pub(crate) fn fitting(place: u8, stage: u8) -> Process {
 
 // The process whose program has the place: the collector, or mutator 1.
 fn whose(place: u8) -> u8 {
-    if Process::ROW1_ROUND <= place {
+    if Place::ROW1_ROUND <= place {
         return 0;
     }
     1

@@ -1,6 +1,8 @@
-// Runs a whole collection with two mutators and prints a line for each choice: the choice, whose step it is and its name, the number of the answer, and the place after it.
-// The choices are the program's input, the file stdin beside src/, in chapters: a title, and the choices below it. A choice is six digits, as a record has them: process, kind,
-// operation, x, f, y. A refused choice is followed by the next one, on the same state.
+// Runs a whole collection with two mutators and prints a line for each choice: the choice, whose step it is and its
+// name, the number of the answer, and the place after it.
+// The choices are the program's input, the file stdin beside src/, in chapters: a title, and the choices below it. A
+// choice is six digits, as a record has them: process, kind, operation, x, f, y. A refused choice is followed by the
+// next one, on the same state.
 mod names;
 
 use header::bytes::byte;
@@ -11,7 +13,8 @@ use state::Process;
 use state::State;
 use state::opening::Heap;
 
-// Four cells: 1 has cell 2 in its field 0 and is the root of both mutators; 3 is free; 4 names 1 and nothing leads to it.
+// Four cells: 1 has cell 2 in its field 0 and is the root of both mutators; 3 is free; 4 names 1 and nothing leads to
+// it.
 fn heap() -> Heap {
     let mut field0 = [0u8; 32];
     let field1 = [0u8; 32];

@@ -49,22 +49,22 @@ Greyed q c = Joined (q .work) (q .grey) c
 
 pub grey-exactly : GreyExactly
 unfolding greysOf
-grey-exactly s c l = (λ p. into (through-from withGreysOf Greyed noProcess c (λ h q. joined-from c h (q .work) (q .grey)) (s .hands .work) (s .procs) p), out)
+grey-exactly s c l = (λ p. into (through-from withGreysOf Greyed noProcess c (λ h q. joined-from c h (q .work) (q .grey)) (s .system .work) (s .procs) p), out)
   where
     of : (p : ℕ) → Greyed (processOf s p) c → Grey s c
     of p (inside q) = listed p q
     of p (alone e q) = greying p e q
 
-    into : (Member (s .hands .work) c) ⊎ ((p : ℕ) × Greyed (processOf s p) c) → Grey s c
+    into : (Member (s .system .work) c) ⊎ ((p : ℕ) × Greyed (processOf s p) c) → Grey s c
     into (inl q) = gathered q
     into (inr q) = of (q .0) (q .1)
 
     by : (p : ℕ) → Greyed (processOf s p) c → Member (greysOf s) c
-    by p q = through-has withGreysOf Greyed noProcess c (λ h r. joined-keeps c h (r .work) (r .grey)) (λ h r. joined-has c l h (r .work) (r .grey)) (joined-none c) (s .hands .work) (s .procs) p q
+    by p q = through-has withGreysOf Greyed noProcess c (λ h r. joined-keeps c h (r .work) (r .grey)) (λ h r. joined-has c l h (r .work) (r .grey)) (joined-none c) (s .system .work) (s .procs) p q
 
     out : Grey s c → Member (greysOf s) c
     out (listed p q) = by p (inside q)
-    out (gathered q) = through-keeps withGreysOf Greyed noProcess c (λ h r. joined-keeps c h (r .work) (r .grey)) (s .hands .work) (s .procs) q
+    out (gathered q) = through-keeps withGreysOf Greyed noProcess c (λ h r. joined-keeps c h (r .work) (r .grey)) (s .system .work) (s .procs) q
     out (greying p e q) = by p (alone e q)
 
 -- ---- black

@@ -28,9 +28,9 @@ use Rattle.state.specs.declared.State.{State}
 use Rattle.state.specs.States.{processOf, mutatorsOf}
 use Rattle.reach.specs.Held.{storeAt}
 use Rattle.reach.specs.Statements.{Bounds}
-use Rattle.fits.specs.Fits.{MutatorAt, idle, mark-old, mark-y, write, roots-first, roots-rest, WellFormed}
-use Rattle.fits.specs.WellFormed.{wellFormedOf}
-use Rattle.fits.proofs.Whole.{well-formed}
+use Rattle.formed.specs.Fits.{MutatorAt, idle, mark-old, mark-y, write, roots-first, roots-rest, WellFormed}
+use Rattle.formed.specs.WellFormed.{wellFormedOf}
+use Rattle.formed.proofs.Whole.{well-formed}
 use Rattle.verdict.specs.declared.Finding.{Finding}
 use Rattle.verdict.specs.Judged.{isMalformed, found, Judged, loose, black, table, clean}
 use Rattle.verdict.specs.Findings.{Found, malformed, formed, findingOf, FormedBounded, FoundExactly, MalformedExactly, FormedJudged, FormedVerdicts}

@@ -18,12 +18,13 @@ use Rattle.cells.proofs.Bools.{split, not-both}
 use Rattle.cells.proofs.Members.{member-pos}
 use Rattle.state.specs.declared.Handshake.{Handshake}
 use Rattle.state.specs.declared.Handshake.the-variants.{Idle, IdleInit, InitMark, Mark, IdleMarkSweep}
-use Rattle.state.specs.declared.Kind.{Kind}
-use Rattle.state.specs.declared.Kind.the-variants.{Noop, Roots, Work}
+use Rattle.state.specs.declared.RoundType.{RoundType}
+use Rattle.state.specs.declared.RoundType.the-variants.{Noop, Roots, Work}
 use Rattle.state.specs.declared.Part.{Part}
-use Rattle.state.specs.declared.Hands.{Hands}
+use Rattle.state.specs.declared.System.{System}
 use Rattle.state.specs.States.{phaseNumber, processOf, mutatorsOf}
-use Rattle.verdict.specs.Table.{InTable, idle, idle-init, init-mark, mark, roots, work, to-idle, to-idle-init, to-init-mark, to-mark, to-roots, to-work, Right, Broken, offeredOf, samePhase, answeredOf, inStepOf, behindOf, rightOf, wrongOf, brokenOf}
+use Rattle.state.specs.Acts.{advanceOf}
+use Rattle.verdict.specs.Table.{InTable, idle, idle-init, init-mark, mark, roots, work, to-idle, to-idle-init, to-init-mark, to-mark, to-roots, to-work, Right, Broken, offeredOf, samePhase, inStepOf, behindOf, rightOf, wrongOf, brokenOf}
 use Rattle.verdict.specs.Statements.{RightExactly, BrokenExactly}
 use Rattle.verdict.proofs.Such.{such-from, such-has}
 
@@ -43,7 +44,7 @@ same-phase : (a b : Handshake) → samePhase a b ≡ true → a ≡ b
 same-phase a b e = sym (number-back a) ∙ ap numbered (eqb-true (phaseNumber a) (phaseNumber b) e) ∙ number-back b
 
 -- ---- in step: both phases are h
-in-step-line : (k : Kind) (h : Handshake) → offeredOf k h ≡ true → InTable true k h h
+in-step-line : (k : RoundType) (h : Handshake) → offeredOf k h ≡ true → InTable true k h h
 in-step-line Noop Idle e = idle
 in-step-line Noop IdleInit e = idle-init
 in-step-line Noop InitMark e = init-mark
@@ -61,7 +62,7 @@ in-step-line Work Mark e = absurd (false≢true e)
 in-step-line Work IdleMarkSweep e = work
 
 -- ---- not in step: the mutator's phase is h, and the system's the one that its answer leads to
-behind-line : (k : Kind) (h : Handshake) → offeredOf k (answeredOf k h) ≡ true → InTable false k (answeredOf k h) h
+behind-line : (k : RoundType) (h : Handshake) → offeredOf k (advanceOf k h) ≡ true → InTable false k (advanceOf k h) h
 behind-line Noop Idle e = to-idle-init
 behind-line Noop IdleInit e = to-init-mark
 behind-line Noop InitMark e = to-mark
@@ -79,10 +80,10 @@ behind-line Work Mark e = absurd (false≢true e)
 behind-line Work IdleMarkSweep e = to-work
 
 -- ---- a line of the table passes the test
-lineOf : Bool → Kind → Handshake → Handshake → Bool
+lineOf : Bool → RoundType → Handshake → Handshake → Bool
 lineOf b k system mutator = pick b (inStepOf k system mutator) (behindOf k system mutator)
 
-line-test : {b : Bool} {k : Kind} {a h : Handshake} → InTable b k a h → lineOf b k a h ≡ true
+line-test : {b : Bool} {k : RoundType} {a h : Handshake} → InTable b k a h → lineOf b k a h ≡ true
 unfolding lineOf inStepOf behindOf
 line-test idle = refl
 line-test idle-init = refl
@@ -97,18 +98,18 @@ line-test to-mark = refl
 line-test to-roots = refl
 line-test to-work = refl
 
-test-line : (b : Bool) (k : Kind) (a h : Handshake) → lineOf b k a h ≡ true → InTable b k a h
+test-line : (b : Bool) (k : RoundType) (a h : Handshake) → lineOf b k a h ≡ true → InTable b k a h
 unfolding lineOf inStepOf behindOf
 test-line true k a h p =
     let r = and-both (samePhase a h) (offeredOf k a) p in
     rw (← same-phase a h (r .0)) (in-step-line k a (r .1))
 test-line false k a h p =
-    let r = and-both (samePhase a (answeredOf k h)) (offeredOf k a) p in
-    let e = same-phase a (answeredOf k h) (r .0) in
+    let r = and-both (samePhase a (advanceOf k h)) (offeredOf k a) p in
+    let e = same-phase a (advanceOf k h) (r .0) in
     rw e (behind-line k h (rw e at (r .1)))
 
 -- ---- the whole table
-flagged : (h : Hands) (q : Part) (raised in-step : Bool) → q .raised ≡ raised → q .in_step ≡ in-step → (rightOf h q ≡ true) ↔ Right h q
+flagged : (h : System) (q : Part) (raised in-step : Bool) → q .raised ≡ raised → q .in_step ≡ in-step → (rightOf h q ≡ true) ↔ Right h q
 unfolding rightOf lineOf
 flagged h q true true er ei = (λ p. absurd (false≢true (rw (ei, er) at p)), λ r. absurd (not-both ei (r .flag er)))
 flagged h q false true er ei = (
@@ -134,11 +135,11 @@ broken-exactly s w p = (into, out)
     into : Member (brokenOf s) p → Broken s p
     into m =
         let r = such-from (wrongOf s) (mutatorsOf s) p m in
-        record { above = member-pos (brokenOf s) p m; mutator = r .0; wrong = λ k. not-both (right-exactly (s .hands) part .1 k) (not-true (rightOf (s .hands) part) (r .1)) }
+        record { above = member-pos (brokenOf s) p m; mutator = r .0; wrong = λ k. not-both (right-exactly (s .system) part .1 k) (not-true (rightOf (s .system) part) (r .1)) }
 
     out : Broken s p → Member (brokenOf s) p
-    out b = go (split (rightOf (s .hands) part))
+    out b = go (split (rightOf (s .system) part))
       where
-        go : (rightOf (s .hands) part ≡ true) ⊎ (rightOf (s .hands) part ≡ false) → Member (brokenOf s) p
-        go (inl e) = absurd (b .wrong (right-exactly (s .hands) part .0 e))
+        go : (rightOf (s .system) part ≡ true) ⊎ (rightOf (s .system) part ≡ false) → Member (brokenOf s) p
+        go (inl e) = absurd (b .wrong (right-exactly (s .system) part .0 e))
         go (inr e) = such-has (wrongOf s) (mutatorsOf s) p (b .above) (b .mutator) (omega (arith, b .mutator, w .mutators)) (rw e)

@@ -1,4 +1,5 @@
--- The colours of cells: "White: occupied, mark unequal to memory's fM. Grey: on any work list or being greyed. Black: occupied, not white, not grey." Assumes nothing.
+-- The colours of cells: "White: occupied, mark unequal to memory's fM. Grey: on any work list or being greyed. Black:
+-- occupied, not white, not grey." Assumes nothing.
 use mathlib.Core.Path.{_≡_}
 use mathlib.Core.Bool.{Bool, true, false, not}
 use Prim.Native.Nat.{ℕ, _<_}
@@ -16,10 +17,11 @@ pub record White (m : Memory) (c : ℕ) : Type 0 where
   pub occupied : usedOf m c ≡ true
   pub unequal : markOf m c ≡ m .fm → ⊥
 
--- "Grey: on any work list or being greyed.": on a process's list, on the system's, or the one cell that a process is greying, if any
+-- "Grey: on any work list or being greyed.": on a process's list, on the system's, or the one cell that a process is
+-- greying, if any
 pub data Grey (s : State) (c : ℕ) : Type 0 where
   listed : (p : ℕ) → Member (processOf s p .work) c → Grey s c
-  gathered : Member (s .hands .work) c → Grey s c
+  gathered : Member (s .system .work) c → Grey s c
   greying : (p : ℕ) → processOf s p .grey ≡ c → 0 < c → Grey s c
 
 -- "Black: occupied, not white, not grey."
@@ -43,7 +45,7 @@ abbrev pub withGreysOf : ℕ → Process → ℕ
 withGreysOf g q = addOf (unionOf g (q .work)) (q .grey)
 
 unfoldable pub greysOf : State → ℕ
-greysOf s = through withGreysOf (s .hands .work) (s .procs)
+greysOf s = through withGreysOf (s .system .work) (s .procs)
 
 -- g is the set of the greys
 unfoldable pub blackOf : Memory → ℕ → ℕ → Bool

@@ -3,8 +3,8 @@ use mathlib.Core.Path.{_≡_}
 use mathlib.Core.Logic.{_↔_}
 use Rattle.base.specs.Pick.{pick}
 use Rattle.state.specs.declared.State.{State}
-use Rattle.fits.specs.Fits.{WellFormed}
-use Rattle.fits.specs.WellFormed.{wellFormedOf}
+use Rattle.formed.specs.Fits.{WellFormed}
+use Rattle.formed.specs.WellFormed.{wellFormedOf}
 use Rattle.verdict.specs.declared.Finding.{Finding}
 use Rattle.verdict.specs.Judged.{isMalformed, found, Judged, judgedOf}
 use Rattle.verdict.specs.Statements.{Bounded, Verdicts}

@@ -47,7 +47,8 @@ pub record Least (P : ℕ → Type 0) (n : ℕ) : Type 0 where
   pub such : P n
   pub least : (c : ℕ) → P c → n ≤ c
 
--- "The least number from 1 to 3 that applies is given, with the least such free cell (1), black cell (2) or mutator (3); 0 and 4 carry the number 0."
+-- "The least number from 1 to 3 that applies is given, with the least such free cell (1), black cell (2) or mutator
+-- (3); 0 and 4 carry the number 0."
 pub data Judged (s : State) : Finding → Type 0 where
   loose : {c : ℕ} → Least (Loose s) c → Judged s (found isLoose c)
   black : {c : ℕ} → None (Loose s) → Least (BlackToWhite s) c → Judged s (found isBlack c)

@@ -7,7 +7,7 @@ use Rattle.cells.specs.Sets.{maxSet, Member}
 use Rattle.memory.specs.declared.Memory.{Memory}
 use Rattle.memory.specs.Memories.{maxMutators}
 use Rattle.state.specs.declared.Part.{Part}
-use Rattle.state.specs.declared.Hands.{Hands}
+use Rattle.state.specs.declared.System.{System}
 use Rattle.state.specs.declared.State.{State}
 use Rattle.state.specs.States.{mutatorsOf}
 use Rattle.reach.specs.Statements.{Within}
@@ -21,7 +21,8 @@ pub record Bounded (s : State) : Type 0 where
   pub within : Within s
   pub mutators : mutatorsOf s ≤ maxMutators
 
--- ---- the tests and sets of the colours and of the table are the words of document 01; no number above 64 is in a set, so of such a one they say nothing
+-- ---- the tests and sets of the colours and of the table are the words of document 01; no number above 64 is in a
+-- set, so of such a one they say nothing
 abbrev pub WhiteExactly : Type 0
 WhiteExactly = (m : Memory) (c : ℕ) → (whiteOf m c ≡ true) ↔ White m c
 
@@ -32,7 +33,7 @@ abbrev pub BlackExactly : Type 0
 BlackExactly = (s : State) (c : ℕ) → c ≤ maxSet → (blackOf (s .memory) (greysOf s) c ≡ true) ↔ Black s c
 
 abbrev pub RightExactly : Type 0
-RightExactly = (h : Hands) (q : Part) → (rightOf h q ≡ true) ↔ Right h q
+RightExactly = (h : System) (q : Part) → (rightOf h q ≡ true) ↔ Right h q
 
 -- ---- the three sets
 abbrev pub LooseExactly : Type 0

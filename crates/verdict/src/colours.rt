@@ -1,4 +1,5 @@
-// "White: occupied, mark unequal to memory's fM. Grey: on any work list or being greyed. Black: occupied, not white, not grey."
+// "White: occupied, mark unequal to memory's fM. Grey: on any work list or being greyed. Black: occupied, not white,
+// not grey."
 use memory::Memory;
 use state::Process;
 use state::State;
@@ -27,10 +28,10 @@ fn with_greys(greys: u64, q: Process) -> u64
 pub fn greys(s: State) -> u64
     ensures { λ r. ⌜ r ≡ greysOf s ⌝ }
 {
-    let hands = s.hands;
-    let mut greys = hands.work;
+    let system = s.system;
+    let mut greys = system.work;
     let mut i = 0;
-    while i < State::PROCESSES {
+    while i < Memory::PROCESSES {
         let q = s.procs[i];
         greys = with_greys(greys, q);
         i += 1;

@@ -8,7 +8,7 @@ ghost use Rattle.verdict.specs.Findings.{findingOf};
 pub fn finding(s: State) -> Finding
     ensures { λ r. ⌜ r ≡ findingOf s ⌝ }
 {
-    if fits::well_formed(s) {
+    if formed::well_formed(s) {
         return super::judged(s);
     }
     Finding {

@@ -1,11 +1,12 @@
 // The handshake table of document 01, for one mutator and for all.
-use state::Hands;
 use state::Handshake;
-use state::Kind;
 use state::Part;
+use state::RoundType;
 use state::State;
+use state::System;
+use state::acts;
 ghost use mathlib.Core.Path.{_≡_};
-ghost use Rattle.verdict.specs.Table.{sweepingOf, offeredOf, samePhase, answeredOf, inStepOf, behindOf, rightOf, wrongOf, brokenOf};
+ghost use Rattle.verdict.specs.Table.{sweepingOf, offeredOf, samePhase, inStepOf, behindOf, rightOf, wrongOf, brokenOf};
 
 // The phase is IdleMarkSweep.
 fn sweeping(h: Handshake) -> bool
@@ -21,13 +22,13 @@ fn sweeping(h: Handshake) -> bool
 }
 
 // The system's phases of a type: no-op has "one of Idle, IdleInit, InitMark, Mark"; roots and work have IdleMarkSweep.
-fn offered(kind: Kind, system: Handshake) -> bool
+fn offered(kind: RoundType, system: Handshake) -> bool
     ensures { λ r. ⌜ r ≡ offeredOf kind system ⌝ }
 {
     match kind {
-        Kind::Noop => !sweeping(system),
-        Kind::Roots => sweeping(system),
-        Kind::Work => sweeping(system),
+        RoundType::Noop => !sweeping(system),
+        RoundType::Roots => sweeping(system),
+        RoundType::Work => sweeping(system),
     }
 }
 
@@ -37,19 +38,8 @@ fn same(a: Handshake, b: Handshake) -> bool
     a.number() == b.number()
 }
 
-// The mutator's phase once it has answered: its answer advances it for no-op and roots.
-fn answered(kind: Kind, mutator: Handshake) -> Handshake
-    ensures { λ r. ⌜ r ≡ answeredOf kind mutator ⌝ }
-{
-    match kind {
-        Kind::Noop => mutator.next(),
-        Kind::Roots => mutator.next(),
-        Kind::Work => mutator,
-    }
-}
-
 // The lines of a mutator that is in step: its phase is the system's.
-fn in_step(kind: Kind, system: Handshake, mutator: Handshake) -> bool
+fn in_step(kind: RoundType, system: Handshake, mutator: Handshake) -> bool
     ensures { λ r. ⌜ r ≡ inStepOf kind system mutator ⌝ }
 {
     if same(system, mutator) {
@@ -58,15 +48,16 @@ fn in_step(kind: Kind, system: Handshake, mutator: Handshake) -> bool
     false
 }
 
-// The lines of one that is not: its phase will be the system's once it has answered.
-fn behind(kind: Kind, system: Handshake, mutator: Handshake) -> bool
+// The lines of one that is not: its phase will be the system's once it has answered, which advances it for no-op and
+// roots.
+fn behind(kind: RoundType, system: Handshake, mutator: Handshake) -> bool
     ensures { λ r. ⌜ r ≡ behindOf kind system mutator ⌝ }
 {
-    in_step(kind, system, answered(kind, mutator))
+    in_step(kind, system, acts::advance(kind, mutator))
 }
 
 // The mutator's line is in the table, and "a raised flag implies not in step".
-pub fn right(h: Hands, q: Part) -> bool
+pub fn right(h: System, q: Part) -> bool
     ensures { λ r. ⌜ r ≡ rightOf h q ⌝ }
 {
     let kind = h.kind;
@@ -87,8 +78,8 @@ fn wrong(s: State, p: u8) -> bool
 {
     let q = s.process(p);
     let part = q.part;
-    let hands = s.hands;
-    !right(hands, part)
+    let system = s.system;
+    !right(system, part)
 }
 
 // The mutators 1 to M whose line is not right.

@@ -1,9 +1,10 @@
-// "2: a black cell has a memory field naming a white one. White: occupied, mark unequal to memory's fM. Grey: on any work list or being greyed. Black:
+// "2: a black cell has a memory field naming a white one. White: occupied, mark unequal to memory's fM. Grey: on any
+// work list or being greyed. Black:
 // occupied, not white, not grey." In the ground fM and every mark are 1; 1 names 2 and 3, and 2 names 4.
 use super::ground;
 use memory::Memory;
-use state::Hands;
 use state::State;
+use state::System;
 
 // Memory with the cell at i of the arrays white: its mark is not fM.
 fn whitened(m: Memory, i: usize) -> Memory {
@@ -69,15 +70,15 @@ pub(crate) fn greys() {
         white_two().with_process(0, collector),
     );
     let mut s = white_two();
-    let old = s.hands;
+    let old = s.system;
     let kind = old.kind;
     let phase = old.phase;
-    let hands = Hands {
+    let system = System {
         kind,
         phase,
         work: 1,
     };
-    s.hands = hands;
+    s.system = system;
     ground::say(b"grey on the system's list", s);
     // "or being greyed": cell 1
     ground::say(

@@ -4,9 +4,12 @@ use buffers::Store;
 use memory::Memory;
 use state::Process;
 use state::State;
+use state::codes::MarkStage;
+use state::codes::Place;
 use state::opening::Heap;
 
-// Six cells, of which 1 to 4 are occupied: 1 names 2 and 3, and 2 names 4. Two mutators: the first has the root 1, the second none.
+// Six cells, of which 1 to 4 are occupied: 1 names 2 and 3, and 2 names 4. Two mutators: the first has the root 1,
+// the second none.
 // Every mark is fM, so all four are black; nothing is white. Verdict 0.
 pub(crate) fn ground() -> State {
     let mut field0 = [0; 32];
@@ -57,7 +60,7 @@ pub(crate) fn with_store(p: u8, store: Store) -> State {
 // A mutator that is about to write y in field 0 of cell 1, and read old there: its honorary root.
 pub(crate) fn storing(old: u8, y: u8) -> Process {
     let mut q = process(1);
-    q.place = Process::STORE_WRITE;
+    q.place = Place::STORE_WRITE;
     q.x = 1;
     q.y = y;
     q.old = old;
@@ -67,8 +70,8 @@ pub(crate) fn storing(old: u8, y: u8) -> Process {
 // A mutator at the last step of a mark of y, which it is greying.
 pub(crate) fn greying(y: u8) -> Process {
     let mut q = process(1);
-    q.place = Process::STORE_MARK_Y;
-    q.stage = Process::UNLOCK;
+    q.place = Place::STORE_MARK_Y;
+    q.stage = MarkStage::UNLOCK;
     q.x = 1;
     q.y = y;
     q.grey = y;

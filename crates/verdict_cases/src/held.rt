@@ -1,5 +1,5 @@
-// "1 loose: some cell reachable from held references is free. Held: roots, honorary roots, targets and values of pending field stores; reach goes through
-// memory's fields of occupied cells." Cells 5 and 6 are free.
+// "1 loose: some cell reachable from held references is free. Held: roots, honorary roots, targets and values of
+// pending field stores; reach goes through memory's fields of occupied cells." Cells 5 and 6 are free.
 use super::ground;
 use buffers::Store;
 use state::State;
@@ -92,7 +92,8 @@ pub(crate) fn chains() {
     q.roots = 0;
     let unreached = from_four(0, 5);
     ground::say(b"unreached chain", unreached.with_process(1, q));
-    // held is 4 alone, by the value of a pending store; 4 names 3, 3 names 2, 2 names 1, 1 names 6: downwards, a pass for each
+    // held is 4 alone, by the value of a pending store; 4 names 3, 3 names 2, 2 names 1, 1 names 6: downwards, a pass
+    // for each
     let mut m = ground::memory();
     m.field0[3] = 3;
     m.field0[2] = 2;

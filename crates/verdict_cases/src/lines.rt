@@ -1,21 +1,22 @@
 // "3: the handshake table is broken." Each line of the table has four findings:
-// both mutators on the line; mutator 2 a phase further; mutator 1 with the other in-step bit; mutator 1 with its flag raised.
+// both mutators on the line; mutator 2 a phase further; mutator 1 with the other in-step bit; mutator 1 with its flag
+// raised.
 use super::ground;
-use state::Hands;
 use state::Handshake;
-use state::Kind;
 use state::Part;
+use state::RoundType;
 use state::State;
+use state::System;
 
 // The ground with these hands, and each mutator with its part.
-fn shaking(kind: Kind, system: Handshake, one: Part, two: Part) -> State {
+fn shaking(kind: RoundType, system: Handshake, one: Part, two: Part) -> State {
     let mut s = ground::ground();
-    let hands = Hands {
+    let system = System {
         kind,
         phase: system,
         work: 0,
     };
-    s.hands = hands;
+    s.system = system;
     let mut first = s.process(1);
     first.part = one;
     let mut second = s.process(2);
@@ -31,7 +32,7 @@ fn part(raised: bool, in_step: bool, phase: Handshake) -> Part {
     }
 }
 
-fn line(name: &[u8], in_step: bool, kind: Kind, system: Handshake, mutator: Handshake) {
+fn line(name: &[u8], in_step: bool, kind: RoundType, system: Handshake, mutator: Handshake) {
     let on = part(false, in_step, mutator);
     let further = part(false, in_step, mutator.next());
     let other = part(false, !in_step, mutator);
@@ -45,21 +46,23 @@ fn line(name: &[u8], in_step: bool, kind: Kind, system: Handshake, mutator: Hand
     io::write_all(1, b"\n");
 }
 
-// "In step: no-op with both phases equal and one of Idle, IdleInit, InitMark, Mark; roots or work with both IdleMarkSweep."
-// On the line 0; a phase further mutator 2 is out; not in step, mutator 1 is out, but for work, whose two lines have the same phases; "A raised flag implies not in step."
+// "In step: no-op with both phases equal and one of Idle, IdleInit, InitMark, Mark; roots or work with both
+// IdleMarkSweep."
+// On the line 0; a phase further mutator 2 is out; not in step, mutator 1 is out, but for work, whose two lines have
+// the same phases; "A raised flag implies not in step."
 pub(crate) fn in_step() {
     noop_in_step();
     line(
         b"in step, roots",
         true,
-        Kind::Roots,
+        RoundType::Roots,
         Handshake::IdleMarkSweep,
         Handshake::IdleMarkSweep,
     );
     line(
         b"in step, work",
         true,
-        Kind::Work,
+        RoundType::Work,
         Handshake::IdleMarkSweep,
         Handshake::IdleMarkSweep,
     );
@@ -70,48 +73,48 @@ fn noop_in_step() {
     line(
         b"in step, no-op, Idle",
         true,
-        Kind::Noop,
+        RoundType::Noop,
         Handshake::Idle,
         Handshake::Idle,
     );
     line(
         b"in step, no-op, IdleInit",
         true,
-        Kind::Noop,
+        RoundType::Noop,
         Handshake::IdleInit,
         Handshake::IdleInit,
     );
     line(
         b"in step, no-op, InitMark",
         true,
-        Kind::Noop,
+        RoundType::Noop,
         Handshake::InitMark,
         Handshake::InitMark,
     );
     line(
         b"in step, no-op, Mark",
         true,
-        Kind::Noop,
+        RoundType::Noop,
         Handshake::Mark,
         Handshake::Mark,
     );
 }
 
-// "Not in step (system, mutator): no-op with (Idle, IdleMarkSweep), (IdleInit, Idle), (InitMark, IdleInit), (Mark, InitMark); roots with (IdleMarkSweep,
-// Mark); work with both IdleMarkSweep." A raised flag is right here.
+// "Not in step (system, mutator): no-op with (Idle, IdleMarkSweep), (IdleInit, Idle), (InitMark, IdleInit), (Mark,
+// InitMark); roots with (IdleMarkSweep, Mark); work with both IdleMarkSweep." A raised flag is right here.
 pub(crate) fn not_in_step() {
     noop_not_in_step();
     line(
         b"not in step, roots",
         false,
-        Kind::Roots,
+        RoundType::Roots,
         Handshake::IdleMarkSweep,
         Handshake::Mark,
     );
     line(
         b"not in step, work",
         false,
-        Kind::Work,
+        RoundType::Work,
         Handshake::IdleMarkSweep,
         Handshake::IdleMarkSweep,
     );
@@ -122,28 +125,28 @@ fn noop_not_in_step() {
     line(
         b"not in step, no-op, Idle",
         false,
-        Kind::Noop,
+        RoundType::Noop,
         Handshake::Idle,
         Handshake::IdleMarkSweep,
     );
     line(
         b"not in step, no-op, IdleInit",
         false,
-        Kind::Noop,
+        RoundType::Noop,
         Handshake::IdleInit,
         Handshake::Idle,
     );
     line(
         b"not in step, no-op, InitMark",
         false,
-        Kind::Noop,
+        RoundType::Noop,
         Handshake::InitMark,
         Handshake::IdleInit,
     );
     line(
         b"not in step, no-op, Mark",
         false,
-        Kind::Noop,
+        RoundType::Noop,
         Handshake::Mark,
         Handshake::InitMark,
     );
@@ -154,25 +157,25 @@ pub(crate) fn phases() {
     let sweep = part(false, true, Handshake::IdleMarkSweep);
     ground::say(
         b"no-op with both IdleMarkSweep",
-        shaking(Kind::Noop, Handshake::IdleMarkSweep, sweep, sweep),
+        shaking(RoundType::Noop, Handshake::IdleMarkSweep, sweep, sweep),
     );
     let idle = part(false, true, Handshake::Idle);
     ground::say(
         b"roots with both Idle",
-        shaking(Kind::Roots, Handshake::Idle, idle, idle),
+        shaking(RoundType::Roots, Handshake::Idle, idle, idle),
     );
     let mark = part(false, false, Handshake::Mark);
     ground::say(
         b"no-op with IdleMarkSweep and Mark",
-        shaking(Kind::Noop, Handshake::IdleMarkSweep, mark, mark),
+        shaking(RoundType::Noop, Handshake::IdleMarkSweep, mark, mark),
     );
     ground::say(
         b"work with IdleMarkSweep and Mark",
-        shaking(Kind::Work, Handshake::IdleMarkSweep, mark, mark),
+        shaking(RoundType::Work, Handshake::IdleMarkSweep, mark, mark),
     );
     // the one mutator that is right does not hide the other
     ground::say(
         b"roots, mutator 2 alone out",
-        shaking(Kind::Roots, Handshake::IdleMarkSweep, mark, idle),
+        shaking(RoundType::Roots, Handshake::IdleMarkSweep, mark, idle),
     );
 }

@@ -1,4 +1,5 @@
-// The verdicts, state by state: each state is made by hand from one ground, and document 01's words beside it say what its finding must be.
+// The verdicts, state by state: each state is made by hand from one ground, and document 01's words beside it say
+// what its finding must be.
 mod colours;
 mod ground;
 mod held;

@@ -1,4 +1,5 @@
--- `marked_cases::differing` is safe and ends. The loop's invariant: the place reached is within the table, and no more cases differ than bytes are passed.
+-- `marked_cases::differing` is safe and ends. The loop's invariant: the place reached is within the table, and no
+-- more cases differ than bytes are passed.
 use Prim.Native.Nat.{_≤_, _-_}
 use lib.ListN.{length}
 use borrow.Author.Needs.{needs}

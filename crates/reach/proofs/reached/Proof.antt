@@ -1,4 +1,5 @@
--- `reach::reached` meets its contract: the loop ends with exactly the cells met, and only one set has them. Assumes nothing.
+-- `reach::reached` meets its contract: the loop ends with exactly the cells met, and only one set has them. Assumes
+-- nothing.
 use Prim.Native.Nat.{_-_, _^_}
 use native.Mathlib.Omega.{arith}
 use borrow.Author.Needs.{needs}

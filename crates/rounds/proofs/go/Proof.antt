@@ -10,7 +10,7 @@ returns c = simp (c .before .match .keys1) (c .on .ensures)
 
 returns-2 : tie.Need-returns-2
 unfolding roundGo
-returns-2 c = rw (c .on2 .ensures, c .before .past-fence .ensures) (simp (c .before .before .match .keys2))
+returns-2 c = rw (c .on2 .ensures, c .before .fenced .ensures) (simp (c .before .before .match .keys2))
 
 returns-3 : tie.Need-returns-3
 unfolding roundGo

@@ -1,4 +1,5 @@
--- `buffers::Buffer::newest` meets its contract: after i turns of the loop it has found the newest among the first i entries. Assumes nothing.
+-- `buffers::Buffer::newest` meets its contract: after i turns of the loop it has found the newest among the first i
+-- entries. Assumes nothing.
 use Prim.Native.Nat.{_≤_, _-_, min}
 use native.Mathlib.Omega.{arith}
 use mathlib.Core.Path.{_≡_, _∙_, ap}

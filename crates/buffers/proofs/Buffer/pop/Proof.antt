@@ -1,4 +1,5 @@
--- `buffers::Buffer::pop` meets its contract: after i turns of the loop the first i entries are those one place up. Assumes nothing.
+-- `buffers::Buffer::pop` meets its contract: after i turns of the loop the first i entries are those one place up.
+-- Assumes nothing.
 use Prim.Native.Nat.{_≤_, _-_}
 use native.Mathlib.Omega.{arith}
 use mathlib.Core.Path.{_≡_}

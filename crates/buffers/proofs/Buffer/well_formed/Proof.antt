@@ -1,4 +1,5 @@
--- `buffers::Buffer::well_formed` meets its contract: after i turns of the loop the first i entries fit. Assumes nothing.
+-- `buffers::Buffer::well_formed` meets its contract: after i turns of the loop the first i entries fit. Assumes
+-- nothing.
 use mathlib.Core.Bool.{true}
 use mathlib.Core.Path.{_≡_, refl}
 use Prim.Native.Nat.{_≤_, _-_}

@@ -11,7 +11,7 @@ returns c = search (needs, picks) depth 9
 
 returns-2 : tie.Need-returns-2
 unfolding lookOf
-returns-2 c = rw (← c .before .before .newest .ensures, ← c .before .held .ensures, ← c .store-or .ensures) (search (needs, picks) depth 9)
+returns-2 c = rw (← c .before .before .newest .ensures, ← c .before .stands .ensures, ← c .store-or .ensures) (search (needs, picks) depth 9)
 
 returns-3 : tie.Need-returns-3
 unfolding lookOf

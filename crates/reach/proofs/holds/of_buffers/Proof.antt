@@ -1,4 +1,5 @@
--- `reach::holds::of_buffers` meets its contract: after i turns of the loop what the first i buffers hold is there. Assumes nothing.
+-- `reach::holds::of_buffers` meets its contract: after i turns of the loop what the first i buffers hold is there.
+-- Assumes nothing.
 use Prim.Native.Nat.{_≤_, _-_}
 use native.Mathlib.Omega.{arith}
 use mathlib.Core.Path.{_≡_, _∙_, ap}

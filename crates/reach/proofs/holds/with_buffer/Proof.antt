@@ -1,4 +1,5 @@
--- `reach::holds::with_buffer` meets its contract: after i turns of the loop what the first i entries hold is there. Assumes nothing.
+-- `reach::holds::with_buffer` meets its contract: after i turns of the loop what the first i entries hold is there.
+-- Assumes nothing.
 use Prim.Native.Nat.{_≤_, _-_, min}
 use native.Mathlib.Omega.{arith}
 use mathlib.Core.Path.{_≡_, _∙_, ap}

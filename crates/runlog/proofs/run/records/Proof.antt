@@ -1,4 +1,5 @@
--- `runlog::run::records` meets its contract: in the loop the state and the count are those of the run of the records so far.
+-- `runlog::run::records` meets its contract: in the loop the state and the count are those of the run of the records
+-- so far.
 use Prim.Native.Nat.{_-_, _≤_, _<_}
 use mathlib.Core.Path.{_≡_, refl, sym, ap, _∙_}
 use mathlib.Core.Logic.{⊎-elim}
@@ -145,8 +146,8 @@ loop-again c =
     ⊎-elim (λ w. sym (w .2 .ensures) ∙ is-taken (w .2 .result) (w .4 .left) ∙ ap (λ (x : State). taken (x .memory)) (sym (w .6)))
     (λ w. unchanged (l .state .memory) (r .result .choice .process) (k .result) (sym (c .before .before .before .before .before .before .changes .ensures) ∙ w .0 .left) ∙ ap (λ (x : State). taken (x .memory)) (sym (w .1))) (s4 .came) in
     let m6 : s6 .state .memory ≡ s4 .state .memory = ⊎-elim (λ w. ap (λ (x : State). x .memory) (w .3)) (λ w. ap (λ (x : State). x .memory) (w .1)) (s6 .came) in
-    let h6 : s6 .state .hands ≡ c .before .before .handed .result = ⊎-elim (λ w. ap (λ (x : State). x .hands) (w .3)) (λ w. ap (λ (x : State). x .hands) (w .1)) (s6 .came) in
-    let t = loop-taken (l .state) (r .result .choice) (l .inv .1 .0) (i .result) (i .ensures) z (k .result) (k .ensures) (v .result) (v .ensures) (c .before .before .before .before .before .before .before .before .before .before .before .before .if3 .left) (c .before .before .before .before .before .before .before .before .mutators .result) (j .result) (c .before .before .before .before .before .before .before .up .result) (g .result) (s6 .state .memory) (s6 .state .procs) (s6 .state .hands)
+    let h6 : s6 .state .system ≡ c .before .before .handed .result = ⊎-elim (λ w. ap (λ (x : State). x .system) (w .3)) (λ w. ap (λ (x : State). x .system) (w .1)) (s6 .came) in
+    let t = loop-taken (l .state) (r .result .choice) (l .inv .1 .0) (i .result) (i .ensures) z (k .result) (k .ensures) (v .result) (v .ensures) (c .before .before .before .before .before .before .before .before .before .before .before .before .if3 .left) (c .before .before .before .before .before .before .before .before .mutators .result) (j .result) (c .before .before .before .before .before .before .before .up .result) (g .result) (s6 .state .memory) (s6 .state .procs) (s6 .state .system)
     (c .before .before .before .before .before .before .before .before .mutators .ensures) (j .ensures) (c .before .before .before .before .before .before .before .up .ensures) (g .ensures) (m4 ∙ ap taken (sym m6)) (p6 ∙ ap (λ (x : List Process). shakenOf x (g .result .act)) p4) (h6 ∙ c .before .before .handed .ensures) in (
       omega (arith, c .before .before .before .before .before .before .before .before .before .before .before .before .before .before .before .before .before .before .before .before .before .before .before .before .before .before .loop-test .taken),
       (

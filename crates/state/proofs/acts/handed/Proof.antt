@@ -6,7 +6,7 @@ returns : tie.Need-returns
 returns c = simp (c .enum-told .given .1)
 
 returns-2 : tie.Need-returns-2
-returns-2 c = simp (c .listed .ensures, c .before .before .act .given .1)
+returns-2 c = simp (c .with-work .ensures, c .before .before .act .given .1)
 
 returns-3 : tie.Need-returns-3
 returns-3 c = simp (c .typed .ensures, c .before .before .act2 .given .1)

@@ -12,7 +12,7 @@ returns c = let a = c .before .args in rw (unset (a .t1) (a .x) maxProcesses _ (
 
 returns-2 : tie.Need-returns-2
 unfolding raisedOf
-returns-2 c = rw (c .flagged .ensures) refl
+returns-2 c = rw (c .flag-up .ensures) refl
 
 pub raised-spec : {M : Type 1} → statement M
 raised-spec =

@@ -1,4 +1,5 @@
--- `verdict::colours::black_to_white` meets its contract: after c turns of the loop the cells 1 to c are judged. Assumes nothing.
+-- `verdict::colours::black_to_white` meets its contract: after c turns of the loop the cells 1 to c are judged.
+-- Assumes nothing.
 use Prim.Native.Nat.{_≤_, _-_}
 use native.Mathlib.Omega.{arith}
 use mathlib.Core.Path.{_≡_, _∙_}

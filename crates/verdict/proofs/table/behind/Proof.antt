@@ -7,7 +7,7 @@ use Rattle.verdict.proofs.table.behind.Tie as tie
 
 returns : tie.Need-returns
 unfolding behindOf
-returns c = rw (← c .before .answered .ensures, ← c .in-step .ensures) (search (needs, picks) depth 16)
+returns c = rw (← c .before .advance .ensures, ← c .in-step .ensures) (search (needs, picks) depth 16)
 
 pub behind-spec : {M : Type 1} → statement M
 behind-spec = tie.close (tie.spec (search needs) (search needs) returns)

@@ -1,4 +1,5 @@
--- `verdict::table::broken` meets its contract: after p turns of the loop the mutators 1 to p are judged. Assumes nothing.
+-- `verdict::table::broken` meets its contract: after p turns of the loop the mutators 1 to p are judged. Assumes
+-- nothing.
 use Prim.Native.Nat.{_≤_, _-_}
 use native.Mathlib.Omega.{arith}
 use mathlib.Core.Path.{_≡_, _∙_}
