@@ -108,8 +108,8 @@ static int compare_examples(const char *directory)
  */
 static int compare_lengths(const char *directory)
 {
-    const struct numbers no_header = { 0, CLAYSAUCER_STOP_HEADER, CLAYSAUCER_VERDICT_MALFORMED };
-    const struct numbers wrong_check = { 1, CLAYSAUCER_STOP_CHECK, CLAYSAUCER_VERDICT_SOUND };
+    const struct numbers no_header = { 0, CLAYSAUCER_STOP_NOT_ADMITTED, CLAYSAUCER_VERDICT_MALFORMED };
+    const struct numbers wrong_check = { 1, CLAYSAUCER_STOP_WRONG_CHECK, CLAYSAUCER_VERDICT_SOUND };
     read_log(directory, "case-01.log");
     int wrong = compare("no byte", 0, no_header);
     wrong += compare("65,536 bytes", CLAYSAUCER_LOG_LIMIT, wrong_check);

@@ -1,9 +1,10 @@
 //! "Collector": the rows of its table and the steps of a round.
 
+use crate::choice::{offered, Choice};
 use crate::marking::mark_step;
+use crate::number::Refusal;
 use crate::place::{CollectorPlace, MarkStage, RoundStage};
 use crate::state::{bit, set_of, HandshakeType, Phase, State, Store};
-use crate::step::{offered, Choice};
 use CollectorPlace::*;
 use HandshakeType::{NoOp, Roots, Work};
 
@@ -11,7 +12,7 @@ use HandshakeType::{NoOp, Roots, Work};
 const COLLECTOR: u8 = 0;
 
 /// The collector's own step.
-pub fn own_step(state: &mut State, c: Choice) -> Result<(), u8> {
+pub fn own_step(state: &mut State, c: Choice) -> Result<(), Refusal> {
     match state.collector.place {
         Row1Round(stage) => round(state, c, (NoOp, stage), Row1Round, Row2Read),
         Row2Read => read_sense(state, c),
@@ -48,7 +49,7 @@ fn round(
     (kind, stage): (HandshakeType, RoundStage),
     here: fn(RoundStage) -> CollectorPlace,
     next: CollectorPlace,
-) -> Result<(), u8> {
+) -> Result<(), Refusal> {
     let further = match stage {
         RoundStage::Fence => round_fence(state, c)?,
         RoundStage::SetType => set_type(state, c, kind)?,
@@ -60,7 +61,7 @@ fn round(
 }
 
 /// The fence of a round.
-fn round_fence(state: &State, c: Choice) -> Result<Option<RoundStage>, u8> {
+fn round_fence(state: &State, c: Choice) -> Result<Option<RoundStage>, Refusal> {
     c.bare()?;
     state.fence(COLLECTOR)?;
     Ok(Some(RoundStage::SetType))
@@ -68,7 +69,11 @@ fn round_fence(state: &State, c: Choice) -> Result<Option<RoundStage>, u8> {
 
 /// "set type (all in-step bits off; the system's handshake phase advances
 /// for no-op and roots)". Every flag is left to raise then.
-fn set_type(state: &mut State, c: Choice, kind: HandshakeType) -> Result<Option<RoundStage>, u8> {
+fn set_type(
+    state: &mut State,
+    c: Choice,
+    kind: HandshakeType,
+) -> Result<Option<RoundStage>, Refusal> {
     c.bare()?;
     state.system.kind = kind;
     for mutator in &mut state.mutators {
@@ -83,7 +88,7 @@ fn set_type(state: &mut State, c: Choice, kind: HandshakeType) -> Result<Option<
 
 /// "raise each flag once, x naming the mutator". Every mutator is awaited
 /// when all flags have been raised.
-fn raise(state: &mut State, c: Choice) -> Result<Option<RoundStage>, u8> {
+fn raise(state: &mut State, c: Choice) -> Result<Option<RoundStage>, Refusal> {
     let x = awaited(state, c)?;
     state.mutator_mut(x).flag = true;
     state.collector.awaited &= !mutator_bit(x);
@@ -96,7 +101,7 @@ fn raise(state: &mut State, c: Choice) -> Result<Option<RoundStage>, u8> {
 
 /// "poll, x naming one still awaited, until none is. A poll that finds the
 /// flag up is taken and changes nothing."
-fn poll(state: &mut State, c: Choice) -> Result<Option<RoundStage>, u8> {
+fn poll(state: &mut State, c: Choice) -> Result<Option<RoundStage>, Refusal> {
     let x = awaited(state, c)?;
     if !state.mutator(x).flag {
         state.collector.awaited &= !mutator_bit(x);
@@ -106,7 +111,7 @@ fn poll(state: &mut State, c: Choice) -> Result<Option<RoundStage>, u8> {
 }
 
 /// The mutator that x names, one of those left.
-fn awaited(state: &State, c: Choice) -> Result<u8, u8> {
+fn awaited(state: &State, c: Choice) -> Result<u8, Refusal> {
     let x = c.only_x()?;
     offered(state.collector.awaited & mutator_bit(x) != 0)?;
     Ok(x)
@@ -121,7 +126,7 @@ fn all_mutators(state: &State) -> u8 {
 }
 
 /// Row 2: "read fM".
-fn read_sense(state: &mut State, c: Choice) -> Result<(), u8> {
+fn read_sense(state: &mut State, c: Choice) -> Result<(), Refusal> {
     c.bare()?;
     state.collector.own.sense = state.read_mark_sense(COLLECTOR)?;
     state.collector.place = Row2Write;
@@ -129,7 +134,7 @@ fn read_sense(state: &mut State, c: Choice) -> Result<(), u8> {
 }
 
 /// Row 2: "then write its opposite, which becomes the noted fM".
-fn flip_sense(state: &mut State, c: Choice) -> Result<(), u8> {
+fn flip_sense(state: &mut State, c: Choice) -> Result<(), Refusal> {
     c.bare()?;
     let opposite = !state.collector.own.sense;
     state.write(COLLECTOR, Store::MarkSense(opposite))?;
@@ -139,7 +144,12 @@ fn flip_sense(state: &mut State, c: Choice) -> Result<(), u8> {
 }
 
 /// Rows 4, 5, 9 and 11: "write phase".
-fn write_phase(state: &mut State, c: Choice, phase: Phase, next: CollectorPlace) -> Result<(), u8> {
+fn write_phase(
+    state: &mut State,
+    c: Choice,
+    phase: Phase,
+    next: CollectorPlace,
+) -> Result<(), Refusal> {
     c.bare()?;
     state.write(COLLECTOR, Store::Phase(phase))?;
     state.collector.place = next;
@@ -147,7 +157,7 @@ fn write_phase(state: &mut State, c: Choice, phase: Phase, next: CollectorPlace)
 }
 
 /// Row 5: "write fA := noted fM".
-fn write_allocation_sense(state: &mut State, c: Choice) -> Result<(), u8> {
+fn write_allocation_sense(state: &mut State, c: Choice) -> Result<(), Refusal> {
     c.bare()?;
     let sense = state.collector.own.sense;
     state.write(COLLECTOR, Store::AllocationSense(sense))?;
@@ -157,7 +167,7 @@ fn write_allocation_sense(state: &mut State, c: Choice) -> Result<(), u8> {
 
 /// Rows 6 and 8: "take the system's list (one step, emptying it; it replaces
 /// the collector's own)". Empty: row 9. Not empty: row 7.
-fn take_list(state: &mut State, c: Choice) -> Result<(), u8> {
+fn take_list(state: &mut State, c: Choice) -> Result<(), Refusal> {
     c.bare()?;
     let taken = std::mem::take(&mut state.system.list);
     state.collector.own.list = taken;
@@ -169,7 +179,7 @@ fn take_list(state: &mut State, c: Choice) -> Result<(), u8> {
 }
 
 /// Row 7: "x from its list, named at the first read: read field 0".
-fn read_field_0(state: &mut State, c: Choice) -> Result<(), u8> {
+fn read_field_0(state: &mut State, c: Choice) -> Result<(), Refusal> {
     let x = c.only_x()?;
     offered(state.collector.own.list & bit(x) != 0)?;
     let child = state.read_field(COLLECTOR, x, 0)?;
@@ -183,7 +193,7 @@ fn read_field_0(state: &mut State, c: Choice) -> Result<(), u8> {
 }
 
 /// Row 7: "read field 1".
-fn read_field_1(state: &mut State, c: Choice) -> Result<(), u8> {
+fn read_field_1(state: &mut State, c: Choice) -> Result<(), Refusal> {
     c.bare()?;
     let child = state.read_field(COLLECTOR, state.collector.scanned, 1)?;
     state.collector.child = child;
@@ -201,7 +211,7 @@ fn mark_child(
     stage: MarkStage,
     here: fn(MarkStage) -> CollectorPlace,
     next: CollectorPlace,
-) -> Result<(), u8> {
+) -> Result<(), Refusal> {
     c.bare()?;
     let further = mark_step(state, COLLECTOR, state.collector.child, stage)?;
     if further.is_none() {
@@ -212,7 +222,7 @@ fn mark_child(
 }
 
 /// Row 7: "drop x (one step); until empty". Then row 8.
-fn drop_scanned(state: &mut State, c: Choice) -> Result<(), u8> {
+fn drop_scanned(state: &mut State, c: Choice) -> Result<(), Refusal> {
     c.bare()?;
     let collector = &mut state.collector;
     let scanned = std::mem::take(&mut collector.scanned);
@@ -225,7 +235,7 @@ fn drop_scanned(state: &mut State, c: Choice) -> Result<(), u8> {
 }
 
 /// Row 9: "write phase Sweep". Every cell number is left to sweep then.
-fn start_sweep(state: &mut State, c: Choice) -> Result<(), u8> {
+fn start_sweep(state: &mut State, c: Choice) -> Result<(), Refusal> {
     write_phase(state, c, Phase::Sweep, Row10Look)?;
     state.collector.unswept = set_of(state.n);
     Ok(())
@@ -233,7 +243,7 @@ fn start_sweep(state: &mut State, c: Choice) -> Result<(), u8> {
 
 /// Row 10: "x naming one left: look at the mark; occupied and unequal to
 /// noted fM: free it, as a further step".
-fn sweep_look(state: &mut State, c: Choice) -> Result<(), u8> {
+fn sweep_look(state: &mut State, c: Choice) -> Result<(), Refusal> {
     let x = c.only_x()?;
     offered(state.collector.unswept & bit(x) != 0)?;
     let mark = state.sweep_look(COLLECTOR, x)?;
@@ -249,7 +259,7 @@ fn sweep_look(state: &mut State, c: Choice) -> Result<(), u8> {
 }
 
 /// Row 10: the further step.
-fn sweep_free(state: &mut State, c: Choice) -> Result<(), u8> {
+fn sweep_free(state: &mut State, c: Choice) -> Result<(), Refusal> {
     c.bare()?;
     state.free(COLLECTOR, state.collector.doomed)?;
     state.collector.doomed = 0;

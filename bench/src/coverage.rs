@@ -1,12 +1,12 @@
 //! What a set of logs reached, as counts, as a table, and as what is missing.
 
+use crate::choice::Choice;
 use crate::events::{Event, Record};
 use crate::header::Fault;
 use crate::log::{judge_observed, Outcome, LOG_LIMIT, RECORD_LENGTH};
-use crate::number::{STOP_SHORT, VERDICT_MALFORMED, VERDICT_SOUND};
+use crate::number::{STOP_FEW_LEFT, VERDICT_MALFORMED, VERDICT_SOUND};
 use crate::place::{CollectorPlace, MutatorPlace};
 use crate::state::{bit, State};
-use crate::step::Choice;
 use std::collections::BTreeMap;
 use std::fmt::{Debug, Write};
 
@@ -70,7 +70,7 @@ impl Coverage {
         count(&mut self.sizes, log.len());
         match end {
             Err(fault) => self.fault(fault, log.len()),
-            Ok(state) if outcome.stop == STOP_SHORT => self.cut(&state, log.len()),
+            Ok(state) if outcome.stop == STOP_FEW_LEFT => self.cut(&state, log.len()),
             Ok(_) => {}
         }
         self.watch(log, outcome);
@@ -195,7 +195,8 @@ impl Coverage {
 
     /// The coverage table as Markdown.
     pub fn markdown(&self) -> String {
-        let mut text = String::from("# Coverage\n");
+        let mut text = String::from("# Coverage of the generator\n\n");
+        text.push_str("What the generated logs reach, as the program `coverage` prints it.\n");
         let (logs, steps) = (self.logs, self.steps);
         let _ = writeln!(text, "\n{logs} logs, {steps} records taken.");
         let verdicts = lines(self.verdicts.keys().copied(), &self.verdicts);

@@ -1,11 +1,9 @@
 //! Named events of a run, told from one record's state before and after.
 
-use crate::number::{
-    ARGUMENT, BLOCKED, BUFFER_FULL, FLAG_DOWN, NOTHING_PENDING, STORES_PENDING, TAKEN,
-};
+use crate::choice::Choice;
+use crate::number::{BLOCKED, FLAG_DOWN, FULL, NONE_PENDING, NOT_OFFERED, PENDING, TAKEN};
 use crate::place::{CollectorPlace, MarkStage, MutatorPlace, RoundStage};
 use crate::state::{bit, State, Store, BUFFER_ROOM};
-use crate::step::Choice;
 use Event::*;
 
 macro_rules! events {
@@ -264,14 +262,14 @@ impl Record<'_> {
 
     fn refusal(&self) -> Option<Event> {
         match (self.number, self.mutator_place()) {
-            (ARGUMENT, place) => Some(self.bad_argument(place)),
-            (NOTHING_PENDING, None) => Some(CollectorNothingPending),
-            (NOTHING_PENDING, Some(_)) => Some(MutatorNothingPending),
+            (NOT_OFFERED, place) => Some(self.bad_argument(place)),
+            (NONE_PENDING, None) => Some(CollectorNothingPending),
+            (NONE_PENDING, Some(_)) => Some(MutatorNothingPending),
             (FLAG_DOWN, _) => Some(FlagDown),
             (BLOCKED, place) => Some(self.blocked(place)),
-            (STORES_PENDING, place) => Some(self.pending(place)),
-            (BUFFER_FULL, _) if self.mark_stage().is_some() => Some(FullMark),
-            (BUFFER_FULL, Some(_)) => Some(FullField),
+            (PENDING, place) => Some(self.pending(place)),
+            (FULL, _) if self.mark_stage().is_some() => Some(FullMark),
+            (FULL, Some(_)) => Some(FullField),
             _ => None,
         }
     }

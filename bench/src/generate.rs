@@ -1,5 +1,6 @@
 //! A seeded generator of logs, guided by the judge so that runs go deep.
 
+use crate::choice::Choice;
 use crate::header::{parse_header, Header};
 use crate::log::{LOG_LIMIT, RECORD_LENGTH};
 use crate::mood::Mood;
@@ -7,7 +8,7 @@ use crate::number::TAKEN;
 use crate::place::CollectorPlace;
 use crate::random::Random;
 use crate::state::State;
-use crate::step::{apply, Choice};
+use crate::step::apply;
 
 /// How often a walk may be refused in a row before it ends.
 const PATIENCE: u32 = 2_000;

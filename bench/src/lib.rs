@@ -13,6 +13,7 @@
 
 #![deny(unsafe_code)]
 
+mod choice;
 mod collector;
 #[cfg(feature = "proved")]
 mod compare;
@@ -39,6 +40,7 @@ mod state;
 mod step;
 mod verdict;
 
+pub use choice::Choice;
 #[cfg(feature = "proved")]
 pub use compare::{Comparison, Difference};
 pub use coverage::Coverage;
@@ -55,5 +57,5 @@ pub use state::{
     bit, members, set_of, Cell, Collector, HandshakePhase, HandshakeType, Mutator, Phase, Process,
     State, Store, System, BUFFER_ROOM, CELLS, MUTATORS,
 };
-pub use step::{apply, step, Choice};
+pub use step::{apply, step};
 pub use verdict::verdict;

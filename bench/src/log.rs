@@ -1,9 +1,12 @@
 //! "The log": a header, then records of 8 bytes.
 
+use crate::choice::Choice;
 use crate::header::{parse_header, Fault};
-use crate::number::{STOP_CHECK, STOP_END, STOP_HEADER, STOP_SHORT, TAKEN, VERDICT_MALFORMED};
+use crate::number::{
+    STOP_ENDED, STOP_FEW_LEFT, STOP_NOT_ADMITTED, STOP_WRONG_CHECK, TAKEN, VERDICT_MALFORMED,
+};
 use crate::state::State;
-use crate::step::{apply, Choice};
+use crate::step::apply;
 use crate::verdict::verdict;
 
 /// "A log is at most 65,536 bytes, else stop 12."
@@ -105,7 +108,7 @@ fn run(log: &[u8], take: impl FnMut(&mut State, Choice) -> u8) -> (Outcome, Resu
         Err(fault) => {
             let outcome = Outcome {
                 steps: 0,
-                stop: STOP_HEADER,
+                stop: STOP_NOT_ADMITTED,
                 verdict: VERDICT_MALFORMED,
             };
             (outcome, Err(fault))
@@ -132,7 +135,7 @@ fn run_records(
     let mut steps = 0;
     while let Some((record, rest)) = records.split_first_chunk() {
         let Some(choice) = Choice::from_record(*record) else {
-            return (steps, STOP_CHECK);
+            return (steps, STOP_WRONG_CHECK);
         };
         let number = take(state, choice);
         if number != TAKEN {
@@ -143,9 +146,9 @@ fn run_records(
     }
     // "Fewer than 8 bytes left: stop 14. None left: stop 0."
     let stop = if records.is_empty() {
-        STOP_END
+        STOP_ENDED
     } else {
-        STOP_SHORT
+        STOP_FEW_LEFT
     };
     (steps, stop)
 }

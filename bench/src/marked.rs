@@ -1,8 +1,8 @@
 //! "Stalls we know (the marked table)": the logs of the twelve cases, with
 //! the numbers document 01 gives for them. Case 12 has two logs.
 
+use crate::choice::Choice;
 use crate::log::Outcome;
-use crate::step::Choice;
 
 /// "Base log, 17 bytes".
 const BASE: [u8; 17] = [

@@ -1,5 +1,6 @@
 //! "Marking a cell r", one function for each of the seven steps.
 
+use crate::number::Refusal;
 use crate::place::MarkStage;
 use crate::state::{bit, Phase, State, Store};
 
@@ -7,7 +8,7 @@ use crate::state::{bit, Phase, State, Store};
 type Further = Option<MarkStage>;
 
 /// Takes the given step of process p's mark of r.
-pub fn mark_step(state: &mut State, p: u8, r: u8, stage: MarkStage) -> Result<Further, u8> {
+pub fn mark_step(state: &mut State, p: u8, r: u8, stage: MarkStage) -> Result<Further, Refusal> {
     match stage {
         MarkStage::Look => look(state, p, r),
         MarkStage::ReadSense => read_sense(state, p),
@@ -20,7 +21,7 @@ pub fn mark_step(state: &mut State, p: u8, r: u8, stage: MarkStage) -> Result<Fu
 }
 
 /// "look at r's mark".
-fn look(state: &mut State, p: u8, r: u8) -> Result<Further, u8> {
+fn look(state: &mut State, p: u8, r: u8) -> Result<Further, Refusal> {
     let look = state.look(p, r)?;
     state.own_mut(p).look = look;
     Ok(Some(MarkStage::ReadSense))
@@ -28,7 +29,7 @@ fn look(state: &mut State, p: u8, r: u8) -> Result<Further, u8> {
 
 /// "read fM, stop if equal". "The collector's read of fM here renews its one
 /// noted fM."
-fn read_sense(state: &mut State, p: u8) -> Result<Further, u8> {
+fn read_sense(state: &mut State, p: u8) -> Result<Further, Refusal> {
     let sense = state.read_mark_sense(p)?;
     state.own_mut(p).sense = sense;
     if state.own(p).look == sense {
@@ -38,7 +39,7 @@ fn read_sense(state: &mut State, p: u8) -> Result<Further, u8> {
 }
 
 /// "read phase, stop if Idle".
-fn read_phase(state: &mut State, p: u8) -> Result<Further, u8> {
+fn read_phase(state: &mut State, p: u8) -> Result<Further, Refusal> {
     if state.read_phase(p)? == Phase::Idle {
         return Ok(over(state, p));
     }
@@ -46,13 +47,13 @@ fn read_phase(state: &mut State, p: u8) -> Result<Further, u8> {
 }
 
 /// "lock".
-fn lock(state: &mut State, p: u8) -> Result<Further, u8> {
+fn lock(state: &mut State, p: u8) -> Result<Further, Refusal> {
     state.take_lock(p)?;
     Ok(Some(MarkStage::LookAgain))
 }
 
 /// "look again; if the two looks agree, write".
-fn look_again(state: &mut State, p: u8, r: u8) -> Result<Further, u8> {
+fn look_again(state: &mut State, p: u8, r: u8) -> Result<Further, Refusal> {
     let agree = state.look(p, r)? == state.own(p).look;
     Ok(Some(if agree {
         MarkStage::Write
@@ -62,7 +63,7 @@ fn look_again(state: &mut State, p: u8, r: u8) -> Result<Further, u8> {
 }
 
 /// "write mark := noted fM (r is now being greyed)".
-fn write(state: &mut State, p: u8, r: u8) -> Result<Further, u8> {
+fn write(state: &mut State, p: u8, r: u8) -> Result<Further, Refusal> {
     let mark = state.own(p).sense;
     state.write(p, Store::Mark { cell: r, mark })?;
     state.own_mut(p).greying = r;
@@ -70,7 +71,7 @@ fn write(state: &mut State, p: u8, r: u8) -> Result<Further, u8> {
 }
 
 /// "The unlock also puts a winner's r on its list and ends its greying."
-fn unlock(state: &mut State, p: u8, r: u8) -> Result<Further, u8> {
+fn unlock(state: &mut State, p: u8, r: u8) -> Result<Further, Refusal> {
     state.release_lock(p)?;
     let own = state.own_mut(p);
     if own.greying != 0 {

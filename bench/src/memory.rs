@@ -1,7 +1,7 @@
 //! "Memory steps (x86-TSO)". Each function makes its checks in number order
 //! and changes nothing when it refuses.
 
-use crate::number::{BLOCKED, BUFFER_FULL, FREE_CELL, NOTHING_PENDING, OCCUPIED, STORES_PENDING};
+use crate::number::Refusal;
 use crate::state::{bit, Cell, Phase, State, Store, BUFFER_ROOM};
 
 impl State {
@@ -10,23 +10,23 @@ impl State {
         self.lock.is_some_and(|holder| holder != p)
     }
 
-    fn unblocked(&self, p: u8) -> Result<(), u8> {
+    fn unblocked(&self, p: u8) -> Result<(), Refusal> {
         if self.blocked(p) {
-            return Err(BLOCKED);
+            return Err(Refusal::Blocked);
         }
         Ok(())
     }
 
-    fn occupied(&self, r: u8) -> Result<(), u8> {
+    fn occupied(&self, r: u8) -> Result<(), Refusal> {
         if !self.cell(r).occupied {
-            return Err(FREE_CELL);
+            return Err(Refusal::Free);
         }
         Ok(())
     }
 
-    fn buffer_empty(&self, p: u8) -> Result<(), u8> {
+    fn buffer_empty(&self, p: u8) -> Result<(), Refusal> {
         if !self.own(p).buffer.is_empty() {
-            return Err(STORES_PENDING);
+            return Err(Refusal::Pending);
         }
         Ok(())
     }
@@ -47,20 +47,20 @@ impl State {
     }
 
     /// A look at r's mark.
-    pub fn look(&self, p: u8, r: u8) -> Result<bool, u8> {
+    pub fn look(&self, p: u8, r: u8) -> Result<bool, Refusal> {
         self.unblocked(p)?;
         self.occupied(r)?;
         Ok(self.seen_mark(p, r))
     }
 
     /// The sweep's look, which refusal 11 excepts: `None` for a free cell.
-    pub fn sweep_look(&self, p: u8, r: u8) -> Result<Option<bool>, u8> {
+    pub fn sweep_look(&self, p: u8, r: u8) -> Result<Option<bool>, Refusal> {
         self.unblocked(p)?;
         Ok(self.cell(r).occupied.then(|| self.seen_mark(p, r)))
     }
 
     /// A read of field f of r.
-    pub fn read_field(&self, p: u8, r: u8, f: u8) -> Result<u8, u8> {
+    pub fn read_field(&self, p: u8, r: u8, f: u8) -> Result<u8, Refusal> {
         self.unblocked(p)?;
         self.occupied(r)?;
         let pending = self.newest(p, |store| match *store {
@@ -71,7 +71,7 @@ impl State {
     }
 
     /// A read of fM.
-    pub fn read_mark_sense(&self, p: u8) -> Result<bool, u8> {
+    pub fn read_mark_sense(&self, p: u8) -> Result<bool, Refusal> {
         self.unblocked(p)?;
         let pending = self.newest(p, |store| match *store {
             Store::MarkSense(sense) => Some(sense),
@@ -81,7 +81,7 @@ impl State {
     }
 
     /// A read of the phase.
-    pub fn read_phase(&self, p: u8) -> Result<Phase, u8> {
+    pub fn read_phase(&self, p: u8) -> Result<Phase, Refusal> {
         self.unblocked(p)?;
         let pending = self.newest(p, |store| match *store {
             Store::Phase(phase) => Some(phase),
@@ -91,40 +91,40 @@ impl State {
     }
 
     /// "A write appends." It is never blocked.
-    pub fn write(&mut self, p: u8, store: Store) -> Result<(), u8> {
+    pub fn write(&mut self, p: u8, store: Store) -> Result<(), Refusal> {
         let buffer = &mut self.own_mut(p).buffer;
         if buffer.len() >= BUFFER_ROOM {
-            return Err(BUFFER_FULL);
+            return Err(Refusal::Full);
         }
         buffer.push_back(store);
         Ok(())
     }
 
     /// "A fence needs one's own buffer empty."
-    pub fn fence(&self, p: u8) -> Result<(), u8> {
+    pub fn fence(&self, p: u8) -> Result<(), Refusal> {
         self.buffer_empty(p)
     }
 
     /// "Lock needs the lock free."
-    pub fn take_lock(&mut self, p: u8) -> Result<(), u8> {
+    pub fn take_lock(&mut self, p: u8) -> Result<(), Refusal> {
         if self.lock.is_some() {
-            return Err(BLOCKED);
+            return Err(Refusal::Blocked);
         }
         self.lock = Some(p);
         Ok(())
     }
 
     /// "Unlock needs one's own buffer empty and leaves the lock with nobody."
-    pub fn release_lock(&mut self, p: u8) -> Result<(), u8> {
+    pub fn release_lock(&mut self, p: u8) -> Result<(), Refusal> {
         self.buffer_empty(p)?;
         self.lock = None;
         Ok(())
     }
 
     /// "A commit applies one's oldest store, unblocked."
-    pub fn commit(&mut self, p: u8) -> Result<(), u8> {
+    pub fn commit(&mut self, p: u8) -> Result<(), Refusal> {
         let oldest = self.own(p).buffer.front().copied();
-        let store = oldest.ok_or(NOTHING_PENDING)?;
+        let store = oldest.ok_or(Refusal::NonePending)?;
         self.unblocked(p)?;
         match store {
             Store::Mark { cell, mark } => {
@@ -145,10 +145,10 @@ impl State {
 
     /// "allocate free cell x (mark = memory's fA, null fields, x becomes a
     /// root)".
-    pub fn allocate(&mut self, p: u8, x: u8) -> Result<(), u8> {
+    pub fn allocate(&mut self, p: u8, x: u8) -> Result<(), Refusal> {
         self.unblocked(p)?;
         if self.cell(x).occupied {
-            return Err(OCCUPIED);
+            return Err(Refusal::Occupied);
         }
         *self.cell_mut(x) = Cell {
             occupied: true,
@@ -160,7 +160,7 @@ impl State {
     }
 
     /// Freeing acts on memory at once. A free cell's mark and fields are 0.
-    pub fn free(&mut self, p: u8, x: u8) -> Result<(), u8> {
+    pub fn free(&mut self, p: u8, x: u8) -> Result<(), Refusal> {
         self.unblocked(p)?;
         *self.cell_mut(x) = Cell::default();
         Ok(())

@@ -1,9 +1,9 @@
 //! The temper of a random walk: who moves, and what a process likes to do.
 
+use crate::choice::Choice;
 use crate::place::{CollectorPlace, MarkStage, MutatorPlace, RoundStage};
 use crate::random::Random;
 use crate::state::{bit, members, set_of, Mutator, State};
-use crate::step::Choice;
 
 /// Chances are in percent, the operations' weights are any numbers.
 #[derive(Clone, Debug)]

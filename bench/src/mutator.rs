@@ -1,14 +1,14 @@
 //! "Mutator": the operations at top, and the steps of a store and an answer.
 
+use crate::choice::{offered, Choice};
 use crate::marking::mark_step;
-use crate::number::{ARGUMENT, FLAG_DOWN};
+use crate::number::Refusal;
 use crate::place::{MarkStage, MutatorPlace};
 use crate::state::{bit, HandshakeType, Mutator, State, Store};
-use crate::step::{offered, Choice};
 use MutatorPlace::*;
 
 /// The own step of the mutator that the choice names.
-pub fn own_step(state: &mut State, c: Choice) -> Result<(), u8> {
+pub fn own_step(state: &mut State, c: Choice) -> Result<(), Refusal> {
     match state.mutator(c.process).place {
         Top => operation(state, c),
         StoreMarkOld(stage) => mark_old(state, c, stage),
@@ -26,7 +26,7 @@ pub fn own_step(state: &mut State, c: Choice) -> Result<(), u8> {
 }
 
 /// "At top the choice names an operation".
-fn operation(state: &mut State, c: Choice) -> Result<(), u8> {
+fn operation(state: &mut State, c: Choice) -> Result<(), Refusal> {
     match c.operation {
         0 => allocate(state, c),
         1 => drop_root(state, c),
@@ -37,18 +37,18 @@ fn operation(state: &mut State, c: Choice) -> Result<(), u8> {
             state.fence(c.process)
         }
         5 => answer(state, c),
-        _ => Err(ARGUMENT),
+        _ => Err(Refusal::NotOffered),
     }
 }
 
 /// "0 allocate free cell x".
-fn allocate(state: &mut State, c: Choice) -> Result<(), u8> {
+fn allocate(state: &mut State, c: Choice) -> Result<(), Refusal> {
     offered((1..=state.n).contains(&c.x) && (c.f, c.y) == (0, 0))?;
     state.allocate(c.process, c.x)
 }
 
 /// "1 drop root x".
-fn drop_root(state: &mut State, c: Choice) -> Result<(), u8> {
+fn drop_root(state: &mut State, c: Choice) -> Result<(), Refusal> {
     let mutator = state.mutator_mut(c.process);
     offered(is_root(mutator, c.x) && (c.f, c.y) == (0, 0))?;
     mutator.roots &= !bit(c.x);
@@ -56,7 +56,7 @@ fn drop_root(state: &mut State, c: Choice) -> Result<(), u8> {
 }
 
 /// "2 read field f of root x, a non-null value becomes a root".
-fn load(state: &mut State, c: Choice) -> Result<(), u8> {
+fn load(state: &mut State, c: Choice) -> Result<(), Refusal> {
     offered(is_root(state.mutator(c.process), c.x) && c.f <= 1 && c.y == 0)?;
     let value = state.read_field(c.process, c.x, c.f)?;
     state.mutator_mut(c.process).roots |= bit(value);
@@ -65,7 +65,7 @@ fn load(state: &mut State, c: Choice) -> Result<(), u8> {
 
 /// "3 store y (a root or 0) in field f of root x": "the first step reads the
 /// old value".
-fn store(state: &mut State, c: Choice) -> Result<(), u8> {
+fn store(state: &mut State, c: Choice) -> Result<(), Refusal> {
     let mutator = state.mutator(c.process);
     offered(is_root(mutator, c.x) && c.f <= 1 && (c.y == 0 || is_root(mutator, c.y)))?;
     let old = state.read_field(c.process, c.x, c.f)?;
@@ -80,7 +80,7 @@ fn store(state: &mut State, c: Choice) -> Result<(), u8> {
 }
 
 /// "5 answer a raised handshake": "read the type".
-fn answer(state: &mut State, c: Choice) -> Result<(), u8> {
+fn answer(state: &mut State, c: Choice) -> Result<(), Refusal> {
     offered((c.x, c.f, c.y) == (0, 0, 0))?;
     let fence = match state.system.kind {
         HandshakeType::NoOp => NoOpFence,
@@ -89,7 +89,7 @@ fn answer(state: &mut State, c: Choice) -> Result<(), u8> {
     };
     let mutator = state.mutator_mut(c.process);
     if !mutator.flag {
-        return Err(FLAG_DOWN);
+        return Err(Refusal::FlagDown);
     }
     mutator.place = fence;
     Ok(())
@@ -100,7 +100,7 @@ fn is_root(mutator: &Mutator, x: u8) -> bool {
 }
 
 /// "then mark the old".
-fn mark_old(state: &mut State, c: Choice, stage: MarkStage) -> Result<(), u8> {
+fn mark_old(state: &mut State, c: Choice, stage: MarkStage) -> Result<(), Refusal> {
     c.bare()?;
     let old = state.mutator(c.process).honorary;
     let further = mark_step(state, c.process, old, stage)?;
@@ -119,7 +119,7 @@ fn after_old(mutator: &Mutator) -> MutatorPlace {
 }
 
 /// "mark y".
-fn mark_new(state: &mut State, c: Choice, stage: MarkStage) -> Result<(), u8> {
+fn mark_new(state: &mut State, c: Choice, stage: MarkStage) -> Result<(), Refusal> {
     c.bare()?;
     let y = state.mutator(c.process).value;
     let further = mark_step(state, c.process, y, stage)?;
@@ -128,7 +128,7 @@ fn mark_new(state: &mut State, c: Choice, stage: MarkStage) -> Result<(), u8> {
 }
 
 /// "write the field, clearing the honorary root".
-fn write_field(state: &mut State, c: Choice) -> Result<(), u8> {
+fn write_field(state: &mut State, c: Choice) -> Result<(), Refusal> {
     c.bare()?;
     let mutator = state.mutator(c.process);
     let pending = Store::Field {
@@ -145,7 +145,7 @@ fn write_field(state: &mut State, c: Choice) -> Result<(), u8> {
 }
 
 /// The fence of an answer.
-fn fence(state: &mut State, c: Choice, next: MutatorPlace) -> Result<(), u8> {
+fn fence(state: &mut State, c: Choice, next: MutatorPlace) -> Result<(), Refusal> {
     c.bare()?;
     state.fence(c.process)?;
     state.mutator_mut(c.process).place = next;
@@ -153,7 +153,7 @@ fn fence(state: &mut State, c: Choice, next: MutatorPlace) -> Result<(), u8> {
 }
 
 /// The fence of a roots answer. All roots are left to mark then.
-fn roots_fence(state: &mut State, c: Choice) -> Result<(), u8> {
+fn roots_fence(state: &mut State, c: Choice) -> Result<(), Refusal> {
     c.bare()?;
     state.fence(c.process)?;
     let mutator = state.mutator_mut(c.process);
@@ -171,7 +171,7 @@ fn after_root(mutator: &Mutator) -> MutatorPlace {
 }
 
 /// "the choice x naming which remaining one at its first look".
-fn look_at_root(state: &mut State, c: Choice) -> Result<(), u8> {
+fn look_at_root(state: &mut State, c: Choice) -> Result<(), Refusal> {
     let x = c.only_x()?;
     offered(state.mutator(c.process).unmarked & bit(x) != 0)?;
     mark_step(state, c.process, x, MarkStage::Look)?;
@@ -183,7 +183,7 @@ fn look_at_root(state: &mut State, c: Choice) -> Result<(), u8> {
 }
 
 /// The further steps of a root's mark.
-fn mark_root(state: &mut State, c: Choice, stage: MarkStage) -> Result<(), u8> {
+fn mark_root(state: &mut State, c: Choice, stage: MarkStage) -> Result<(), Refusal> {
     c.bare()?;
     let root = state.mutator(c.process).root;
     let further = mark_step(state, c.process, root, stage)?;
@@ -198,7 +198,7 @@ fn mark_root(state: &mut State, c: Choice, stage: MarkStage) -> Result<(), u8> {
 /// "then one step lowers the flag, sets in step, and, for roots or work,
 /// moves its list to the system's". It "advances the mutator's handshake
 /// phase for no-op and roots".
-fn finish(state: &mut State, c: Choice, kind: HandshakeType) -> Result<(), u8> {
+fn finish(state: &mut State, c: Choice, kind: HandshakeType) -> Result<(), Refusal> {
     c.bare()?;
     let mutator = state.mutator_mut(c.process);
     mutator.flag = false;

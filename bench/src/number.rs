@@ -3,37 +3,60 @@
 /// A step that is taken.
 pub const TAKEN: u8 = 0;
 
-/// Refusal 1: the state is malformed.
-pub const MALFORMED: u8 = 1;
-/// Refusal 2: the process is above M.
-pub const NO_PROCESS: u8 = 2;
-/// Refusal 3: the kind is not 0 or 1.
-pub const NO_KIND: u8 = 3;
-/// Refusal 4: an unused argument isn't zero, or a used one isn't offered.
-pub const ARGUMENT: u8 = 4;
-/// Refusal 5: a commit with an empty buffer.
-pub const NOTHING_PENDING: u8 = 5;
-/// Refusal 6: operation 5, flag down.
-pub const FLAG_DOWN: u8 = 6;
-/// Refusal 7: blocked, or a lock step while any process holds the lock.
-pub const BLOCKED: u8 = 7;
-/// Refusal 8: fence or unlock, own buffer not empty.
-pub const STORES_PENDING: u8 = 8;
-/// Refusal 9: a write, 8 stores pending.
-pub const BUFFER_FULL: u8 = 9;
-/// Refusal 10: allocation of an occupied cell.
-pub const OCCUPIED: u8 = 10;
-/// Refusal 11: a look, field read or commit on a free cell.
-pub const FREE_CELL: u8 = 11;
+/// Why a step is refused.
+#[derive(Clone, Copy, Debug, PartialEq, Eq)]
+pub enum Refusal {
+    /// The state is malformed.
+    Malformed = 1,
+    /// The process is above M.
+    NoProcess = 2,
+    /// The kind is not 0 or 1.
+    NoKind = 3,
+    /// An unused argument isn't zero, or a used one isn't offered.
+    NotOffered = 4,
+    /// A commit with an empty buffer.
+    NonePending = 5,
+    /// Operation 5, flag down.
+    FlagDown = 6,
+    /// Blocked, or a lock step while any process holds the lock.
+    Blocked = 7,
+    /// Fence or unlock, own buffer not empty.
+    Pending = 8,
+    /// A write, 8 stores pending.
+    Full = 9,
+    /// Allocation of an occupied cell.
+    Occupied = 10,
+    /// A look, field read or commit on a free cell.
+    Free = 11,
+}
+
+impl Refusal {
+    pub const fn number(self) -> u8 {
+        self as u8
+    }
+}
+
+// The same as plain numbers: what `step` answers, and a log's stop.
+pub const MALFORMED: u8 = Refusal::Malformed.number();
+pub const NO_PROCESS: u8 = Refusal::NoProcess.number();
+pub const NO_KIND: u8 = Refusal::NoKind.number();
+pub const NOT_OFFERED: u8 = Refusal::NotOffered.number();
+pub const NONE_PENDING: u8 = Refusal::NonePending.number();
+pub const FLAG_DOWN: u8 = Refusal::FlagDown.number();
+pub const BLOCKED: u8 = Refusal::Blocked.number();
+pub const PENDING: u8 = Refusal::Pending.number();
+pub const FULL: u8 = Refusal::Full.number();
+pub const OCCUPIED: u8 = Refusal::Occupied.number();
+pub const FREE: u8 = Refusal::Free.number();
 
 /// Stop 0: no record left.
-pub const STOP_END: u8 = 0;
+pub const STOP_ENDED: u8 = 0;
 /// Stop 12: the header breaks a rule, is short, or the log is too long.
-pub const STOP_HEADER: u8 = 12;
+pub const STOP_NOT_ADMITTED: u8 = 12;
 /// Stop 13: a record's check is wrong.
-pub const STOP_CHECK: u8 = 13;
+pub const STOP_WRONG_CHECK: u8 = 13;
 /// Stop 14: fewer than 8 bytes left.
-pub const STOP_SHORT: u8 = 14;
+pub const STOP_FEW_LEFT: u8 = 14;
 
 /// Verdict 0: none of the others.
 pub const VERDICT_SOUND: u8 = 0;

@@ -1,4 +1,4 @@
-//! The proved judge, through the static library that `rt staticlib cbench`
+//! The proved judge, through the static library that `rt staticlib claysaucer`
 //! makes. Nothing of it is used by the independent judge.
 
 use crate::log::Outcome;

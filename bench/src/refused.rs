@@ -1,14 +1,13 @@
 //! The generator's logs that end with a refused record.
 
+use crate::choice::Choice;
 use crate::generate::{Generator, Walk};
 use crate::mood::Mood;
 use crate::number::{
-    BLOCKED, BUFFER_FULL, FLAG_DOWN, NOTHING_PENDING, NO_KIND, NO_PROCESS, OCCUPIED,
-    STORES_PENDING, TAKEN,
+    BLOCKED, FLAG_DOWN, FULL, NONE_PENDING, NO_KIND, NO_PROCESS, OCCUPIED, PENDING, TAKEN,
 };
 use crate::place::CollectorPlace;
 use crate::state::State;
-use crate::step::Choice;
 
 /// What a refused record is aimed at: a number, and for some numbers the
 /// rare case of it.
@@ -25,7 +24,7 @@ impl Aim {
     fn hit(self, state: &State, choice: Choice, number: u8) -> bool {
         let rare = match number {
             BLOCKED => choice.process == 0,
-            BUFFER_FULL => state.mark_stage(choice.process).is_some(),
+            FULL => state.mark_stage(choice.process).is_some(),
             _ => true,
         };
         number == self.number && (rare || !self.rare)
@@ -35,7 +34,7 @@ impl Aim {
     fn place(self) -> Option<CollectorPlace> {
         match self.number {
             BLOCKED if self.rare => Some(CollectorPlace::Row7Read0),
-            BUFFER_FULL if self.rare => Some(CollectorPlace::Row4WriteInit),
+            FULL if self.rare => Some(CollectorPlace::Row4WriteInit),
             _ => None,
         }
     }
@@ -51,7 +50,7 @@ impl Generator {
             rare: self.random.percent(40),
         };
         let mood = match aim.number {
-            BUFFER_FULL => Mood::hoarding(&mut self.random),
+            FULL => Mood::hoarding(&mut self.random),
             _ => self.mood(),
         };
         let mut walk = self.open();
@@ -107,11 +106,11 @@ impl Generator {
                 kind: self.random.within(2, 255) as u8,
                 ..own
             },
-            NOTHING_PENDING => Choice::commit(p),
+            NONE_PENDING => Choice::commit(p),
             FLAG_DOWN => Choice::operation(p, 5, 0, 0, 0),
             OCCUPIED => Choice::operation(p, 0, self.small(state.n), 0, 0),
-            BUFFER_FULL => own,
-            BLOCKED | STORES_PENDING => match self.random.below(6) {
+            FULL => own,
+            BLOCKED | PENDING => match self.random.below(6) {
                 0 => Choice::commit(p),
                 1 => Choice::operation(p, 0, self.small(state.n), 0, 0),
                 2 => Choice::operation(p, 4, 0, 0, 0),

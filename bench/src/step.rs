@@ -1,84 +1,17 @@
 //! One choice, answered by the table "When the judge says no".
 
+use crate::choice::Choice;
 use crate::malformed::malformed;
-use crate::number::{ARGUMENT, MALFORMED, NO_KIND, NO_PROCESS, TAKEN};
+use crate::number::{Refusal, TAKEN};
 use crate::state::State;
 use crate::{collector, mutator};
-
-/// What a record names: process, kind, operation, x, f and y.
-#[derive(Clone, Copy, Debug, Default, PartialEq, Eq)]
-pub struct Choice {
-    pub process: u8,
-    pub kind: u8,
-    pub operation: u8,
-    pub x: u8,
-    pub f: u8,
-    pub y: u8,
-}
-
-impl Choice {
-    /// The bare own step of a process.
-    pub fn own(process: u8) -> Choice {
-        Choice {
-            process,
-            ..Choice::default()
-        }
-    }
-
-    /// A commit of a process.
-    pub fn commit(process: u8) -> Choice {
-        Choice {
-            kind: 1,
-            ..Choice::own(process)
-        }
-    }
-
-    /// The own step that names x.
-    pub fn naming(process: u8, x: u8) -> Choice {
-        Choice {
-            x,
-            ..Choice::own(process)
-        }
-    }
-
-    /// An operation of a mutator at top.
-    pub fn operation(process: u8, operation: u8, x: u8, f: u8, y: u8) -> Choice {
-        Choice {
-            operation,
-            x,
-            f,
-            y,
-            ..Choice::own(process)
-        }
-    }
-
-    /// Refusal 4 for a place that uses no argument.
-    pub(crate) fn bare(self) -> Result<(), u8> {
-        offered((self.operation, self.x, self.f, self.y) == (0, 0, 0, 0))
-    }
-
-    /// Refusal 4 for a place that uses x alone.
-    pub(crate) fn only_x(self) -> Result<u8, u8> {
-        offered((self.operation, self.f, self.y) == (0, 0, 0))?;
-        Ok(self.x)
-    }
-}
-
-/// Refusal 4 unless the arguments are offered.
-pub(crate) fn offered(yes: bool) -> Result<(), u8> {
-    if yes {
-        Ok(())
-    } else {
-        Err(ARGUMENT)
-    }
-}
 
 /// Answers a choice on any state, also a malformed one: 0 and the state the
 /// step makes, or the refusal's number and "the same state".
 pub fn step(state: &State, choice: Choice) -> (u8, State) {
     let mut after = state.clone();
     if malformed(state) {
-        return (MALFORMED, after);
+        return (Refusal::Malformed.number(), after);
     }
     let number = apply(&mut after, choice);
     (number, after)
@@ -89,14 +22,14 @@ pub fn step(state: &State, choice: Choice) -> (u8, State) {
 pub fn apply(state: &mut State, choice: Choice) -> u8 {
     match attempt(state, choice) {
         Ok(()) => TAKEN,
-        Err(number) => number,
+        Err(refusal) => refusal.number(),
     }
 }
 
 /// "Checks run in number order": 2, 3, then those of the step itself.
-fn attempt(state: &mut State, choice: Choice) -> Result<(), u8> {
+fn attempt(state: &mut State, choice: Choice) -> Result<(), Refusal> {
     if choice.process > state.m {
-        return Err(NO_PROCESS);
+        return Err(Refusal::NoProcess);
     }
     match (choice.kind, choice.process) {
         (0, 0) => collector::own_step(state, choice),
@@ -105,6 +38,6 @@ fn attempt(state: &mut State, choice: Choice) -> Result<(), u8> {
             choice.bare()?;
             state.commit(p)
         }
-        _ => Err(NO_KIND),
+        _ => Err(Refusal::NoKind),
     }
 }

@@ -1,8 +1,8 @@
-//! The states and choices of the tables of cases, built anew in the types of
-//! this judge and answered by its `step`. The lines must be those of the
-//! programs' stored outputs.
+//! The states and choices of the program engine_cases, built anew in the types
+//! of this judge and answered by its `step`. The lines must be those of the
+//! stored output.
 //!
-//! A row of a table is a name, the changes of the ground, each behind a +,
+//! A row of the table is a name, the changes of the ground, each behind a +,
 //! and the choice: behind a = for one answer, behind a # for four, with the
 //! lock held by nobody, by the collector, by mutator 1 and by mutator 2.
 
@@ -16,52 +16,16 @@ use claysaucer_bench::{step, Choice, State};
 use places::{collector_code, mutator_code};
 use script::{digits, Act};
 
-/// The programs of cases: the stored output, and the files that have the
-/// tables, in the order in which the program writes them.
-const PROGRAMS: [Program; 1] = [Program {
-    stored: "../crates/engine_cases/stdout",
-    tables: &["../crates/engine_cases/stdin"],
-}];
-
-struct Program {
-    stored: &'static str,
-    tables: &'static [&'static str],
-}
+const STORED: &str = "../crates/engine_cases/stdout";
+const TABLE: &str = "../crates/engine_cases/stdin";
 
 #[test]
 fn every_line_is_as_stored() {
-    for program in PROGRAMS {
-        let mut lines = Vec::new();
-        for path in program.tables {
-            let before = lines.len();
-            lines.extend(rows(&stored::text(path)).map(line));
-            assert!(lines.len() > before, "{path} has no row");
-        }
-        stored::compare(&lines, program.stored);
-    }
-}
-
-/// The rows in a file. Whatever else stands in it is passed over; a row that
-/// was passed over too would be missing from the lines.
-fn rows(file: &str) -> impl Iterator<Item = &str> {
-    let bare = file.lines().map(undressed);
-    bare.filter(|line| ends_with_choice(line))
-}
-
-/// A row without the signs of the literal it may stand in.
-fn undressed(line: &str) -> &str {
-    let row = line.trim_start().trim_start_matches("b\"");
-    row.trim_end_matches("\\n\\").trim_end_matches("\\n\",")
-}
-
-/// A row ends with the choice: its sign and six digits.
-fn ends_with_choice(line: &str) -> bool {
-    let choice = line.rsplit_once(['=', '#']);
-    choice.is_some_and(|(_, text)| text.len() == 6 && text.bytes().all(is_digit))
-}
-
-fn is_digit(byte: u8) -> bool {
-    byte == b'*' || byte.is_ascii_digit()
+    let table = stored::text(TABLE);
+    let rows = table.lines().filter(|row| !row.starts_with(';'));
+    let lines: Vec<String> = rows.map(line).collect();
+    assert!(!lines.is_empty(), "{TABLE} has no row");
+    stored::compare(&lines, STORED);
 }
 
 /// The line that a row makes: its name and the answers.

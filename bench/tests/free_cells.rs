@@ -3,31 +3,31 @@
 
 mod common;
 
-use claysaucer_bench::number::{FREE_CELL, TAKEN};
+use claysaucer_bench::number::{FREE, TAKEN};
 use claysaucer_bench::{step, Choice, CollectorPlace, MarkStage, Phase, State, Store};
-use common::{collector_marks, mutator_marks, next_choice, number, opening, FREE};
+use common::{collector_marks, mutator_marks, next_choice, number, opening, FREE_CELL};
 
-const FREE_BIT: u32 = 1 << (FREE - 1);
+const FREE_BIT: u32 = 1 << (FREE_CELL - 1);
 
 #[test]
 fn the_first_look() {
-    for state in mutator_marks(FREE, MarkStage::Look) {
-        assert_eq!(number(&state, next_choice(&state, 1)), FREE_CELL);
+    for state in mutator_marks(FREE_CELL, MarkStage::Look) {
+        assert_eq!(number(&state, next_choice(&state, 1)), FREE);
     }
-    for state in collector_marks(FREE, MarkStage::Look) {
-        assert_eq!(number(&state, Choice::own(0)), FREE_CELL);
+    for state in collector_marks(FREE_CELL, MarkStage::Look) {
+        assert_eq!(number(&state, Choice::own(0)), FREE);
     }
 }
 
 #[test]
 fn the_second_look() {
-    for mut state in mutator_marks(FREE, MarkStage::LookAgain) {
+    for mut state in mutator_marks(FREE_CELL, MarkStage::LookAgain) {
         state.lock = Some(1);
-        assert_eq!(number(&state, Choice::own(1)), FREE_CELL);
+        assert_eq!(number(&state, Choice::own(1)), FREE);
     }
-    for mut state in collector_marks(FREE, MarkStage::LookAgain) {
+    for mut state in collector_marks(FREE_CELL, MarkStage::LookAgain) {
         state.lock = Some(0);
-        assert_eq!(number(&state, Choice::own(0)), FREE_CELL);
+        assert_eq!(number(&state, Choice::own(0)), FREE);
     }
 }
 
@@ -35,10 +35,10 @@ fn the_second_look() {
 fn the_other_steps_of_a_mark_do_not_look() {
     use MarkStage::{Lock, ReadPhase, ReadSense, Unlock, Write};
     for stage in [ReadSense, ReadPhase, Lock, Write, Unlock] {
-        for state in mutator_marks(FREE, stage) {
+        for state in mutator_marks(FREE_CELL, stage) {
             assert_eq!(number(&state, Choice::own(1)), TAKEN, "{stage:?}");
         }
-        for state in collector_marks(FREE, stage) {
+        for state in collector_marks(FREE_CELL, stage) {
             assert_eq!(number(&state, Choice::own(0)), TAKEN, "{stage:?}");
         }
     }
@@ -50,8 +50,8 @@ fn the_mutators_field_reads() {
     state.mutators[0].roots |= FREE_BIT;
     for f in 0..=1 {
         for operation in [2, 3] {
-            let choice = Choice::operation(1, operation, FREE, f, 0);
-            assert_eq!(number(&state, choice), FREE_CELL);
+            let choice = Choice::operation(1, operation, FREE_CELL, f, 0);
+            assert_eq!(number(&state, choice), FREE);
         }
     }
 }
@@ -61,10 +61,10 @@ fn the_collectors_field_reads() {
     let mut state = opening();
     state.collector.place = CollectorPlace::Row7Read0;
     state.collector.own.list = FREE_BIT;
-    assert_eq!(number(&state, Choice::naming(0, FREE)), FREE_CELL);
+    assert_eq!(number(&state, Choice::naming(0, FREE_CELL)), FREE);
     state.collector.place = CollectorPlace::Row7Read1;
-    state.collector.scanned = FREE;
-    assert_eq!(number(&state, Choice::own(0)), FREE_CELL);
+    state.collector.scanned = FREE_CELL;
+    assert_eq!(number(&state, Choice::own(0)), FREE);
 }
 
 #[test]
@@ -72,13 +72,13 @@ fn ones_own_pending_store_does_not_help() {
     let mut state = opening();
     state.mutators[0].roots |= FREE_BIT;
     let store = Store::Field {
-        cell: FREE,
+        cell: FREE_CELL,
         field: 0,
         value: 1,
     };
     state.mutators[0].own.buffer.push_back(store);
-    let load = Choice::operation(1, 2, FREE, 0, 0);
-    assert_eq!(number(&state, load), FREE_CELL);
+    let load = Choice::operation(1, 2, FREE_CELL, 0, 0);
+    assert_eq!(number(&state, load), FREE);
 }
 
 fn with_store(p: u8, store: Store) -> State {
@@ -91,16 +91,16 @@ fn with_store(p: u8, store: Store) -> State {
 fn commits_of_marks_and_fields() {
     for p in 0..=2 {
         let mark = Store::Mark {
-            cell: FREE,
+            cell: FREE_CELL,
             mark: true,
         };
-        assert_eq!(number(&with_store(p, mark), Choice::commit(p)), FREE_CELL);
+        assert_eq!(number(&with_store(p, mark), Choice::commit(p)), FREE);
         let field = Store::Field {
-            cell: FREE,
+            cell: FREE_CELL,
             field: 1,
             value: 1,
         };
-        assert_eq!(number(&with_store(p, field), Choice::commit(p)), FREE_CELL);
+        assert_eq!(number(&with_store(p, field), Choice::commit(p)), FREE);
     }
 }
 
@@ -109,7 +109,7 @@ fn other_commits_do_not_touch_a_cell() {
     let into_occupied = Store::Field {
         cell: 1,
         field: 1,
-        value: FREE,
+        value: FREE_CELL,
     };
     let others = [
         into_occupied,
@@ -127,7 +127,7 @@ fn the_sweeps_look_is_excepted() {
     let mut state = opening();
     state.collector.place = CollectorPlace::Row10Look;
     state.collector.unswept = 0b111;
-    let (taken, after) = step(&state, Choice::naming(0, FREE));
+    let (taken, after) = step(&state, Choice::naming(0, FREE_CELL));
     assert_eq!(taken, TAKEN);
     assert_eq!(after.collector.place, CollectorPlace::Row10Look);
     assert_eq!(after.collector.unswept, 0b011);
@@ -137,7 +137,7 @@ fn the_sweeps_look_is_excepted() {
 fn freeing_a_free_cell_is_taken() {
     let mut state = opening();
     state.collector.place = CollectorPlace::Row10Free;
-    state.collector.doomed = FREE;
+    state.collector.doomed = FREE_CELL;
     let (taken, after) = step(&state, Choice::own(0));
     assert_eq!(taken, TAKEN);
     assert_eq!(after.cells, state.cells);

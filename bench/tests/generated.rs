@@ -2,7 +2,7 @@
 
 mod common;
 
-use claysaucer_bench::number::{MALFORMED, STOP_HEADER, TAKEN, VERDICT_MALFORMED};
+use claysaucer_bench::number::{MALFORMED, STOP_NOT_ADMITTED, TAKEN, VERDICT_MALFORMED};
 use claysaucer_bench::{
     apply, judge, judge_observed, malformed, parse_header, step, verdict, Choice, Coverage, Fault,
     Generator, MarkStage, Outcome, Random, State,
@@ -12,8 +12,8 @@ use common::{disturb, likely_choice, random_choice, random_state};
 /// The seed of the coverage table.
 const SEED: u64 = 1;
 
-/// Every named stop, place, stage, clause, size and event is reached, and
-/// nothing contradicts the published theorem.
+/// Every named stop, place, stage, clause, size and event is reached, nothing
+/// contradicts the published theorem, and the stored table says so.
 #[test]
 fn the_fixed_seed_reaches_everything() {
     let mut generator = Generator::new(SEED);
@@ -23,6 +23,10 @@ fn the_fixed_seed_reaches_everything() {
     }
     assert_eq!(coverage.missing(), Vec::<String>::new());
     assert!(coverage.alarms.is_empty(), "{:02X?}", coverage.alarms);
+    assert!(
+        coverage.markdown() == include_str!("../COVERAGE.md"),
+        "bench/COVERAGE.md is not what the program `coverage` prints: make it again"
+    );
 }
 
 /// A process is inside its compare and swap exactly while it holds the lock.
@@ -195,7 +199,7 @@ fn truncation_after_every_byte() {
 fn header_outcome() -> Outcome {
     Outcome {
         steps: 0,
-        stop: STOP_HEADER,
+        stop: STOP_NOT_ADMITTED,
         verdict: VERDICT_MALFORMED,
     }
 }

@@ -7,7 +7,7 @@ use claysaucer_bench::{
     malformed, verdict, Choice, CollectorPlace, HandshakePhase, MarkStage, MutatorPlace,
     RoundStage, State, Store,
 };
-use common::{about_to_write, collector_marks, mutator_marks, number, opening, FREE};
+use common::{about_to_write, collector_marks, mutator_marks, number, opening, FREE_CELL};
 
 /// Breaks a sound state and sees refusal 1 and verdict 4, whatever is chosen.
 fn breaks(name: &str, sound: &State, damage: impl Fn(&mut State)) {
@@ -20,7 +20,7 @@ fn breaks(name: &str, sound: &State, damage: impl Fn(&mut State)) {
         Choice::own(1),
         Choice::naming(0, 1),
         Choice::commit(1),
-        Choice::operation(1, 0, FREE, 0, 0),
+        Choice::operation(1, 0, FREE_CELL, 0, 0),
         Choice::operation(9, 9, 9, 9, 9),
     ];
     for choice in choices {
@@ -57,7 +57,7 @@ fn cells_out_of_range() {
     breaks("field 0", &state, |s| s.cells[0].fields[0] = 4);
     breaks("field 1", &state, |s| s.cells[1].fields[1] = 255);
     allows("a field names a free cell", &state, |s| {
-        s.cells[0].fields[0] = FREE;
+        s.cells[0].fields[0] = FREE_CELL;
     });
     let write = about_to_write();
     breaks("target null", &write, |s| s.mutators[0].target = 0);
@@ -160,7 +160,11 @@ fn pending_stores_out_of_range() {
                 s.own_mut(p).buffer.push_back(store);
             });
         }
-        for store in [mark(FREE), field(FREE, 1, FREE), field(1, 0, 0)] {
+        for store in [
+            mark(FREE_CELL),
+            field(FREE_CELL, 1, FREE_CELL),
+            field(1, 0, 0),
+        ] {
             allows("store", &opening(), |s| {
                 s.own_mut(p).buffer.push_back(store);
             });

@@ -4,7 +4,9 @@ mod common;
 
 use claysaucer_bench::number::*;
 use claysaucer_bench::{step, Choice, CollectorPlace, MarkStage, MutatorPlace, State, Store};
-use common::{about_to_write, collector_marks, mutator_marks, next_choice, number, opening, FREE};
+use common::{
+    about_to_write, collector_marks, mutator_marks, next_choice, number, opening, FREE_CELL,
+};
 
 const FENCE: u8 = 4;
 const ANSWER: u8 = 5;
@@ -71,48 +73,48 @@ fn process_before_kind_before_arguments() {
 fn arguments_before_an_empty_buffer() {
     let state = opening();
     for p in 0..=2 {
-        assert_eq!(number(&state, Choice::commit(p)), NOTHING_PENDING);
+        assert_eq!(number(&state, Choice::commit(p)), NONE_PENDING);
         let arguments = [(1, 0, 0, 0), (0, 1, 0, 0), (0, 0, 1, 0), (0, 0, 0, 1)];
         for (operation, x, f, y) in arguments {
             let choice = Choice {
                 kind: 1,
                 ..Choice::operation(p, operation, x, f, y)
             };
-            assert_eq!(number(&state, choice), ARGUMENT);
+            assert_eq!(number(&state, choice), NOT_OFFERED);
         }
     }
 }
 
 #[test]
 fn arguments_before_the_flag() {
-    assert_eq!(number(&opening(), operation(ANSWER, 1, 0, 0)), ARGUMENT);
+    assert_eq!(number(&opening(), operation(ANSWER, 1, 0, 0)), NOT_OFFERED);
     assert_eq!(number(&opening(), operation(ANSWER, 0, 0, 0)), FLAG_DOWN);
 }
 
 #[test]
 fn arguments_before_blocked() {
     let state = locked(opening(), 2);
-    assert_eq!(number(&state, operation(0, 0, 0, 0)), ARGUMENT);
-    assert_eq!(number(&state, operation(0, 4, 0, 0)), ARGUMENT);
-    assert_eq!(number(&state, operation(2, FREE, 0, 0)), ARGUMENT);
-    assert_eq!(number(&state, operation(3, 1, 2, 0)), ARGUMENT);
+    assert_eq!(number(&state, operation(0, 0, 0, 0)), NOT_OFFERED);
+    assert_eq!(number(&state, operation(0, 4, 0, 0)), NOT_OFFERED);
+    assert_eq!(number(&state, operation(2, FREE_CELL, 0, 0)), NOT_OFFERED);
+    assert_eq!(number(&state, operation(3, 1, 2, 0)), NOT_OFFERED);
     assert_eq!(number(&state, operation(3, 1, 0, 0)), BLOCKED);
 }
 
 #[test]
 fn arguments_before_pending_and_full() {
     let state = pending(opening(), 1, 1);
-    assert_eq!(number(&state, operation(FENCE, 1, 0, 0)), ARGUMENT);
-    assert_eq!(number(&state, operation(FENCE, 0, 0, 0)), STORES_PENDING);
+    assert_eq!(number(&state, operation(FENCE, 1, 0, 0)), NOT_OFFERED);
+    assert_eq!(number(&state, operation(FENCE, 0, 0, 0)), PENDING);
     let state = pending(about_to_write(), 1, 8);
-    assert_eq!(number(&state, Choice::naming(1, 1)), ARGUMENT);
-    assert_eq!(number(&state, Choice::own(1)), BUFFER_FULL);
+    assert_eq!(number(&state, Choice::naming(1, 1)), NOT_OFFERED);
+    assert_eq!(number(&state, Choice::own(1)), FULL);
 }
 
 #[test]
 fn an_empty_buffer_before_blocked() {
     let state = locked(opening(), 2);
-    assert_eq!(number(&state, Choice::commit(1)), NOTHING_PENDING);
+    assert_eq!(number(&state, Choice::commit(1)), NONE_PENDING);
     assert_eq!(number(&pending(state, 1, 1), Choice::commit(1)), BLOCKED);
 }
 
@@ -121,25 +123,25 @@ fn blocked_before_occupied() {
     assert_eq!(number(&opening(), operation(0, 1, 0, 0)), OCCUPIED);
     let state = locked(opening(), 2);
     assert_eq!(number(&state, operation(0, 1, 0, 0)), BLOCKED);
-    assert_eq!(number(&state, operation(0, FREE, 0, 0)), BLOCKED);
+    assert_eq!(number(&state, operation(0, FREE_CELL, 0, 0)), BLOCKED);
 }
 
 #[test]
 fn blocked_before_a_free_cell() {
     for stage in [MarkStage::Look, MarkStage::LookAgain] {
-        for state in mutator_marks(FREE, stage) {
+        for state in mutator_marks(FREE_CELL, stage) {
             let state = locked(state, 2);
             assert_eq!(number(&state, next_choice(&state, 1)), BLOCKED);
         }
-        for state in collector_marks(FREE, stage) {
+        for state in collector_marks(FREE_CELL, stage) {
             assert_eq!(number(&locked(state, 2), Choice::own(0)), BLOCKED);
         }
     }
     let mut state = locked(opening(), 2);
-    state.mutators[0].roots |= 1 << (FREE - 1);
-    assert_eq!(number(&state, operation(2, FREE, 0, 0)), BLOCKED);
+    state.mutators[0].roots |= 1 << (FREE_CELL - 1);
+    assert_eq!(number(&state, operation(2, FREE_CELL, 0, 0)), BLOCKED);
     let store = Store::Mark {
-        cell: FREE,
+        cell: FREE_CELL,
         mark: true,
     };
     state.mutators[0].own.buffer.push_back(store);
@@ -172,7 +174,7 @@ fn reads_and_frees_are_blocked() {
         state.collector.doomed = u8::from(place == Row10Free);
         let choices = match place {
             Row7Read0 => vec![Choice::naming(0, 1)],
-            Row10Look => vec![Choice::naming(0, 1), Choice::naming(0, FREE)],
+            Row10Look => vec![Choice::naming(0, 1), Choice::naming(0, FREE_CELL)],
             _ => vec![Choice::own(0)],
         };
         for choice in choices {
@@ -196,17 +198,17 @@ fn reads_and_frees_are_blocked() {
 fn writes_fences_and_unlocks_are_never_blocked() {
     let write = locked(about_to_write(), 2);
     assert_eq!(number(&write, Choice::own(1)), TAKEN);
-    assert_eq!(number(&pending(write, 1, 8), Choice::own(1)), BUFFER_FULL);
+    assert_eq!(number(&pending(write, 1, 8), Choice::own(1)), FULL);
     let fence = locked(opening(), 2);
     assert_eq!(number(&fence, operation(FENCE, 0, 0, 0)), TAKEN);
     let fence = pending(fence, 1, 1);
-    assert_eq!(number(&fence, operation(FENCE, 0, 0, 0)), STORES_PENDING);
+    assert_eq!(number(&fence, operation(FENCE, 0, 0, 0)), PENDING);
     for unlock in mutator_marks(1, MarkStage::Unlock) {
         let unlock = locked(unlock, 2);
         let (taken, after) = step(&unlock, Choice::own(1));
         assert_eq!((taken, after.lock), (TAKEN, None));
         let unlock = pending(unlock, 1, 1);
-        assert_eq!(number(&unlock, Choice::own(1)), STORES_PENDING);
+        assert_eq!(number(&unlock, Choice::own(1)), PENDING);
     }
 }
 
@@ -214,10 +216,10 @@ fn writes_fences_and_unlocks_are_never_blocked() {
 fn a_mark_needs_room_for_its_write() {
     for state in mutator_marks(1, MarkStage::Write) {
         assert_eq!(number(&pending(state.clone(), 1, 7), Choice::own(1)), TAKEN);
-        assert_eq!(number(&pending(state, 1, 8), Choice::own(1)), BUFFER_FULL);
+        assert_eq!(number(&pending(state, 1, 8), Choice::own(1)), FULL);
     }
     for state in collector_marks(1, MarkStage::Write) {
-        assert_eq!(number(&pending(state, 0, 8), Choice::own(0)), BUFFER_FULL);
+        assert_eq!(number(&pending(state, 0, 8), Choice::own(0)), FULL);
     }
 }
 

@@ -2,12 +2,12 @@
 
 mod common;
 
-use claysaucer_bench::number::{ARGUMENT, TAKEN};
+use claysaucer_bench::number::{NOT_OFFERED, TAKEN};
 use claysaucer_bench::{
     step, Choice, CollectorPlace, HandshakePhase, HandshakeType, MarkStage, MutatorPlace, Phase,
     RoundStage, State, Store,
 };
-use common::{collector_marks, mutator_marks, number, opening, FREE};
+use common::{collector_marks, mutator_marks, number, opening, FREE_CELL};
 
 /// Takes a choice that must be taken.
 fn take(state: &State, choice: Choice) -> State {
@@ -133,9 +133,9 @@ fn allocation_takes_memorys_sense() {
     state.allocation_sense = false;
     let pending = Store::AllocationSense(true);
     state.mutators[0].own.buffer.push_back(pending);
-    let after = take(&state, Choice::operation(1, 0, FREE, 0, 0));
-    assert!(after.cell(FREE).occupied && !after.cell(FREE).mark);
-    assert_eq!(after.cell(FREE).fields, [0, 0]);
+    let after = take(&state, Choice::operation(1, 0, FREE_CELL, 0, 0));
+    assert!(after.cell(FREE_CELL).occupied && !after.cell(FREE_CELL).mark);
+    assert_eq!(after.cell(FREE_CELL).fields, [0, 0]);
     assert_eq!(after.mutators[0].roots, 0b111);
 }
 
@@ -258,10 +258,10 @@ fn raises_and_polls_name_those_left() {
     let state = round(CollectorPlace::Row1Round(RoundStage::SetType));
     let state = take(&state, Choice::own(0));
     for x in [0, 3, 4, 9, 255] {
-        assert_eq!(number(&state, Choice::naming(0, x)), ARGUMENT);
+        assert_eq!(number(&state, Choice::naming(0, x)), NOT_OFFERED);
     }
     let state = take(&state, Choice::naming(0, 2));
-    assert_eq!(number(&state, Choice::naming(0, 2)), ARGUMENT);
+    assert_eq!(number(&state, Choice::naming(0, 2)), NOT_OFFERED);
     let state = take(&state, Choice::naming(0, 1));
     assert_eq!(take(&state, Choice::naming(0, 2)), state, "the flag is up");
     let answer = [
@@ -271,8 +271,8 @@ fn raises_and_polls_name_those_left() {
         Choice::naming(0, 2),
     ];
     let state = take_all(&state, &answer);
-    assert_eq!(number(&state, Choice::naming(0, 2)), ARGUMENT);
-    assert_eq!(number(&state, Choice::own(0)), ARGUMENT);
+    assert_eq!(number(&state, Choice::naming(0, 2)), NOT_OFFERED);
+    assert_eq!(number(&state, Choice::own(0)), NOT_OFFERED);
 }
 
 #[test]
@@ -297,7 +297,10 @@ fn the_sweep_frees_what_is_not_marked() {
     state.collector.own.sense = true;
     state.cell_mut(2).mark = false;
     let state = take_all(&state, &[Choice::own(0), Choice::naming(0, 1)]);
-    let state = take_all(&state, &[Choice::naming(0, FREE), Choice::naming(0, 2)]);
+    let state = take_all(
+        &state,
+        &[Choice::naming(0, FREE_CELL), Choice::naming(0, 2)],
+    );
     assert_eq!(state.collector.place, CollectorPlace::Row10Free);
     assert_eq!((state.collector.unswept, state.collector.doomed), (0, 2));
     let state = take(&state, Choice::own(0));
@@ -338,11 +341,15 @@ fn unused_arguments_are_zero_everywhere() {
         for (operation, f, y) in extra {
             for x in 0..=3 {
                 let choice = Choice::operation(0, operation, x, f, y);
-                assert_eq!(number(&state, choice), ARGUMENT, "{place:?}");
+                assert_eq!(number(&state, choice), NOT_OFFERED, "{place:?}");
             }
         }
         // Nothing is left to be named, and no other place uses x.
-        assert_eq!(number(&state, Choice::naming(0, 1)), ARGUMENT, "{place:?}");
+        assert_eq!(
+            number(&state, Choice::naming(0, 1)),
+            NOT_OFFERED,
+            "{place:?}"
+        );
     }
     for place in MutatorPlace::all().split_off(1) {
         let mut state = opening();
@@ -354,14 +361,18 @@ fn unused_arguments_are_zero_everywhere() {
         mutator.root = u8::from(named);
         for (operation, f, y) in extra {
             let choice = Choice::operation(1, operation, 0, f, y);
-            assert_eq!(number(&state, choice), ARGUMENT, "{place:?}");
+            assert_eq!(number(&state, choice), NOT_OFFERED, "{place:?}");
         }
-        assert_eq!(number(&state, Choice::naming(1, 1)), ARGUMENT, "{place:?}");
+        assert_eq!(
+            number(&state, Choice::naming(1, 1)),
+            NOT_OFFERED,
+            "{place:?}"
+        );
     }
 }
 
 /// What top does not offer: operation, x, f, y.
-const NOT_OFFERED: [(u8, u8, u8, u8); 25] = [
+const NOT_AT_TOP: [(u8, u8, u8, u8); 25] = [
     (0, 0, 0, 0),
     (0, 4, 0, 0),
     (0, 3, 1, 0),
@@ -402,9 +413,9 @@ const OFFERED: [(u8, u8, u8, u8); 6] = [
 #[test]
 fn arguments_at_top() {
     let state = opening();
-    for (operation, x, f, y) in NOT_OFFERED {
+    for (operation, x, f, y) in NOT_AT_TOP {
         let choice = Choice::operation(1, operation, x, f, y);
-        assert_eq!(number(&state, choice), ARGUMENT, "{choice:?}");
+        assert_eq!(number(&state, choice), NOT_OFFERED, "{choice:?}");
     }
     for (operation, x, f, y) in OFFERED {
         take(&state, Choice::operation(1, operation, x, f, y));

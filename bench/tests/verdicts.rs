@@ -5,7 +5,7 @@ mod common;
 use claysaucer_bench::{
     verdict, Cell, HandshakePhase, HandshakeType, MarkStage, MutatorPlace, State, Store,
 };
-use common::{about_to_write, mutator_marks, opening, FREE};
+use common::{about_to_write, mutator_marks, opening, FREE_CELL};
 
 /// Cells 1 to 4 with these fields, all occupied and marked, one mutator
 /// without roots.
@@ -42,18 +42,18 @@ fn an_opening_is_sound() {
 #[test]
 fn loose_by_a_free_root() {
     let mut state = opening();
-    state.mutators[1].roots |= 1 << (FREE - 1);
-    assert_eq!(verdict(&state), (1, FREE));
+    state.mutators[1].roots |= 1 << (FREE_CELL - 1);
+    assert_eq!(verdict(&state), (1, FREE_CELL));
 }
 
 #[test]
 fn loose_by_the_target_or_the_value_of_a_pending_store() {
     for p in 0..=2 {
-        for (cell, value) in [(FREE, 0), (FREE, 1), (1, FREE)] {
+        for (cell, value) in [(FREE_CELL, 0), (FREE_CELL, 1), (1, FREE_CELL)] {
             let mut state = opening();
             state.own_mut(p).buffer.push_back(Store::MarkSense(true));
             state.own_mut(p).buffer.push_back(field_store(cell, value));
-            assert_eq!(verdict(&state), (1, FREE), "process {p}");
+            assert_eq!(verdict(&state), (1, FREE_CELL), "process {p}");
         }
     }
 }
@@ -61,8 +61,8 @@ fn loose_by_the_target_or_the_value_of_a_pending_store() {
 #[test]
 fn loose_by_an_honorary_root() {
     let mut state = about_to_write();
-    state.mutators[0].honorary = FREE;
-    assert_eq!(verdict(&state), (1, FREE));
+    state.mutators[0].honorary = FREE_CELL;
+    assert_eq!(verdict(&state), (1, FREE_CELL));
 }
 
 #[test]
@@ -99,18 +99,18 @@ fn the_least_loose_cell_is_given() {
 fn lists_notes_and_pending_marks_hold_nothing() {
     let mut state = opening();
     let mark = Store::Mark {
-        cell: FREE,
+        cell: FREE_CELL,
         mark: true,
     };
     state.mutators[0].own.buffer.push_back(mark);
-    let free_bit = 1 << (FREE - 1);
+    let free_bit = 1 << (FREE_CELL - 1);
     state.mutators[0].own.list = free_bit;
     state.collector.own.list = free_bit;
     state.system.list = free_bit;
     assert_eq!(verdict(&state), (0, 0));
     let mut writing = about_to_write();
-    writing.mutators[0].target = FREE;
-    writing.mutators[0].value = FREE;
+    writing.mutators[0].target = FREE_CELL;
+    writing.mutators[0].value = FREE_CELL;
     assert_eq!(verdict(&writing), (0, 0));
 }
 

@@ -43,12 +43,10 @@ impl Act {
         match self.letter {
             'P' => put_mutator(mutator, self.place()),
             'U' => raise(mutator),
-            'X' => mutator.target = self.v,
             'Y' => mutator.value = self.v,
             'O' => mutator.honorary = self.v,
             'C' => mutator.root = self.v,
             'L' => mutator.unmarked = u32::from(self.v),
-            'W' => mutator.own.list = u32::from(self.v),
             'R' => mutator.roots = u32::from(self.v),
             letter => panic!("no change of a mutator has the letter {letter}"),
         }

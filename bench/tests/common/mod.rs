@@ -14,7 +14,7 @@ pub fn opening() -> State {
 }
 
 /// The free cell of `opening`.
-pub const FREE: u8 = 3;
+pub const FREE_CELL: u8 = 3;
 
 /// Mutator 1 at the given stage of the mark of r, at each of its three
 /// marking sites. An answer's root is named, unless it is at its look.
