@@ -2,7 +2,7 @@
 --     picks      the set, for `search (needs, picks)`
 use Prim.Native.Nat.{ℕ, _≤_, _<_}
 use mathlib.Core.Bool.{Bool, true, false, not}
-use mathlib.Core.Path.{_≡_, sym, _∙_, ap}
+use mathlib.Core.Path.{_≡_, sym, _∙_}
 use lib.Dec.{leb, ltb, eqb}
 use borrow.Author.Tests.{le-leb, lt-leb, lt-ltb, le-ltb, eq-eqb, ne-eqb, not-true, not-false}
 use Rattle.base.specs.Pick.{pick}

@@ -144,7 +144,7 @@ impl Buffer {
     }
 
     // How many entries are pending: a length out of range counts as the whole.
-    fn pending(self) -> usize
+    pub fn pending(self) -> usize
         ensures { λ r. ⌜ r ≡ min (self .len) maxStores ⌝ }
     {
         let n = self.len;

@@ -16,7 +16,7 @@ use Rattle.buffers.proofs.Hits.{hits-own, hits-apart}
 use Rattle.memory.specs.declared.Memory.{Memory}
 use Rattle.memory.proofs.Spots.{Plain, held-sense, held-alloc-sense, held-phase}
 use Rattle.memory.proofs.Effects.{Committed, committed-held}
-use Rattle.memory_formed.specs.WellFormed as sound
+use Rattle.memory_formed.specs.WellFormed.{MemoryFormed}
 use Rattle.memory_formed.proofs.Shapes.{shaped, pending-plain}
 
 abbrev pub senseAfter : Store → Bool → Bool
@@ -64,7 +64,7 @@ at-phase (store.AllocSense i) b e = ap phaseOf (rw (hits-apart kindOf spot.Phase
 at-phase (store.Phase i) b e = ap phaseOf (rw (hits-own (store.Phase i)) at e)
 
 -- ---- a commit of p
-module _ {m n : Memory} (w : sound.WellFormed m) (p : ℕ) (k : Committed m p n) where
+module _ {m n : Memory} (w : MemoryFormed m) (p : ℕ) (k : Committed m p n) where
   plain-oldest : Plain (spotOf (k .oldest .store))
   plain-oldest = pending-plain m w p (k .oldest) (rw (k .before) (List·Memᴰ·head refl))
 

@@ -4,7 +4,7 @@
 --     row-goes       every row is of one of the kinds
 --     allocates-quiet, frees-quiet         allocating and freeing leave the lock, the pending stores, the senses and
 --                                          the phase
---     site                                 the place of a mark
+--     marks-place                                 the place of a mark
 --     others-inside, others-unlocking      another process stays inside its compare and swap, at its unlock, or outside
 --     outside-unlocking                    outside there is no unlock
 use mathlib.Core.Path.{_≡_, refl, sym}
@@ -23,7 +23,7 @@ use Rattle.memory.specs.Memories.{maxCells, maxProcesses, taken}
 use Rattle.memory.specs.Steps.{writeOf, commitOf, lockOf, unlockOf, allocateOf, freeOf}
 use Rattle.memory.specs.Views.{pendingFor}
 use Rattle.memory.proofs.Effects.{Reset, allocate-taken, free-taken}
-use Rattle.memory_formed.specs.WellFormed as sound
+use Rattle.memory_formed.specs.WellFormed.{MemoryFormed}
 use Rattle.memory_formed.proofs.Shapes.{shaped}
 use Rattle.state.specs.declared.RoundType.{RoundType}
 use Rattle.state.specs.declared.Process.{Process}
@@ -79,7 +79,7 @@ still p m = Outer.quiet (record { lock = refl; pending = λ q. refl; fm = refl; 
 reset-quiet : {m n : Memory} {x : ℕ} {u b : Bool} → Reset m x u b n → Quiet m n
 reset-quiet r = record { lock = r .lock; pending = r .pending; fm = r .fm; fa = r .fa; phase = r .phase }
 
-module _ (m : Memory) (w : sound.WellFormed m) (p x : ℕ) (i : IsCell (m .cells) x) where
+module _ (m : Memory) (w : MemoryFormed m) (p x : ℕ) (i : IsCell (m .cells) x) where
   most : x ≤ maxCells
   most = omega (arith, i .1, w .few-cells)
 
@@ -97,12 +97,12 @@ out : {q : Process} {k j : ℕ} → At k j q → insideAt k j ≡ false → insi
 out {q} a h = table insideAt q a h
 
 -- at a mark, by the stage
-pub site : {q : Process} {r : ℕ} → Marks q r → markPlace (q .place) ≡ true
-site (Marks.old e) = rw e refl
-site (Marks.new e) = rw e refl
-site (Marks.root e) = rw e refl
-site (Marks.first e) = rw e refl
-site (Marks.second e) = rw e refl
+pub marks-place : {q : Process} {r : ℕ} → Marks q r → markPlace (q .place) ≡ true
+marks-place (Marks.old e) = rw e refl
+marks-place (Marks.new e) = rw e refl
+marks-place (Marks.root e) = rw e refl
+marks-place (Marks.first e) = rw e refl
+marks-place (Marks.second e) = rw e refl
 
 inside-site : (k j : ℕ) {b : Bool} → markPlace k ≡ true → insideAt storeMarkOld j ≡ b → insideAt k j ≡ b
 unfolding insideAt
@@ -115,10 +115,10 @@ unlock-site k j e h = rw e h
 module _ {q : Process} {r : ℕ} (i : Marks q r) where
   -- where it goes on to
   to : (j : ℕ) {b : Bool} → insideAt storeMarkOld j ≡ b → insideAt (q .place) j ≡ b
-  to j h = inside-site (q .place) j (site i) h
+  to j h = inside-site (q .place) j (marks-place i) h
 
   to-unlock : (j : ℕ) {b : Bool} → unlockAt storeMarkOld j ≡ b → unlockAt (q .place) j ≡ b
-  to-unlock j h = unlock-site (q .place) j (site i) h
+  to-unlock j h = unlock-site (q .place) j (marks-place i) h
 
   -- where it is
   on : {j : ℕ} {b : Bool} → q .stage ≡ j → insideAt storeMarkOld j ≡ b → insideOf q ≡ b

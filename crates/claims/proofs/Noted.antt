@@ -32,7 +32,7 @@ use Rattle.memory.proofs.Shapes.{Shaped, pending-is, view-misses}
 use Rattle.memory.proofs.Spots.{held-phase}
 use Rattle.memory.proofs.Sights.{look-phase-taken}
 use Rattle.memory.proofs.Effects.{write-taken, lock-taken, unlock-taken, commit-taken}
-use Rattle.memory_formed.specs.WellFormed as sound
+use Rattle.memory_formed.specs.WellFormed.{MemoryFormed}
 use Rattle.memory_formed.proofs.Shapes.{shaped}
 use Rattle.state.specs.declared.Handshake.the-variants as hand
 use Rattle.state.specs.declared.RoundType.{RoundType}
@@ -54,9 +54,9 @@ use Rattle.stays_formed.proofs.Leaves.{row-others, row-counts}
 use Rattle.claims.specs.Lock.{insideAt, Inside, Lock}
 use Rattle.claims.specs.Pending.{MarkOrField, MarksAndFields, MutatorStores}
 use Rattle.claims.specs.Handshakes.{Handshakes}
-use Rattle.claims.specs.Written.{entryFor, Written}
+use Rattle.claims.specs.Written.{entryFor, CollectorWrote}
 use Rattle.claims.specs.Noted.{reachedAt, Reached, NotedBy, Noted, HolderNoted}
-use Rattle.claims.proofs.Moves.{Outer, Goes, row-goes, site}
+use Rattle.claims.proofs.Moves.{Outer, Goes, row-goes, marks-place}
 use Rattle.claims.proofs.Commits.{senseAfter, fm-after}
 use Rattle.claims.proofs.Senses.{flip-idle, idle-phase, scan-sense}
 use Rattle.claims.proofs.Written.{sees-sense}
@@ -102,7 +102,7 @@ sees-phase m p f e =
 -- ---- a step of a mark
 module _ {q : Process} {r : ℕ} (i : Marks q r) where
   here : (j : ℕ) {k : ℕ} → q .stage ≡ k → leb j k ≡ true → Reached j q
-  here j e h = rw (site i, e) h
+  here j e h = rw (marks-place i, e) h
 
   -- past the phase read nothing can change
   goes-on : {b : Bool} {k : ℕ} (o : Process) → q .stage ≡ k → leb phaseStage k ≡ true → leb lockStage k ≡ true → o .sense ≡ q .sense → o .part ≡ q .part → NotedBy b q → NotedBy b o
@@ -113,12 +113,12 @@ module _ {q : Process} {r : ℕ} (i : Marks q r) where
       }
 
 mark-noted : {m n : Memory} {p r : ℕ} {q t : Process} → Shaped m → MarksAndFields (pendingFor m p) → (q .part .phase ≡ hand.Idle → m .phase .phase ≡ phase.Idle) → Marks q r → Mark m p r q n t → NotedBy (m .fm) q → NotedBy (n .fm) t
-mark-noted {m} z f d i (Mark.looks e g) v = early (m .fm) (record { sense = rw (site i) refl; lock = rw (site i) refl })
+mark-noted {m} z f d i (Mark.looks e g) v = early (m .fm) (record { sense = rw (marks-place i) refl; lock = rw (marks-place i) refl })
 mark-noted {m} z f d i (Mark.equal e g h) v = early (m .fm) (next-early h)
 mark-noted {m} {p = p} z f d i (Mark.unequal e g) v =
     record {
       sense = λ _ _. sees-sense m p (view-misses m p spot.Sense (λ x j. misses spot.Sense (omega arith) (f x j))) g;
-      left = λ h. let k = site i in absurd (false≢true (rw k at h));
+      left = λ h. let k = marks-place i in absurd (false≢true (rw k at h));
     }
 mark-noted {m} z f d i (Mark.idle e g h) v = early (m .fm) (next-early h)
 mark-noted {m} {p = p} z f d i (Mark.busy e g h) v =
@@ -188,7 +188,7 @@ outer-moves : {p : ℕ} {m n : Memory} → Shaped m → Outer p m n → Moved p 
 outer-moves z (Outer.quiet k) = Moved.same (k .fm)
 outer-moves {p} z (Outer.writes {v} k i e) = Moved.same (write-taken p (entryFor v) z e .alike .fm)
 
-goes-moves : {p : ℕ} {q o : Process} {m n : Memory} → sound.WellFormed m → Goes p q m o n → Moved p m n
+goes-moves : {p : ℕ} {q o : Process} {m n : Memory} → MemoryFormed m → Goes p q m o n → Moved p m n
 goes-moves {p} w (Goes.locks a b e) = Moved.same (lock-taken p e .after .alike .fm)
 goes-moves w (Goes.looks a u b) = Moved.same refl
 goes-moves {p} {m = m} w (Goes.writes a u b v r d e) = Moved.same (write-taken p _ (shaped m w) e .alike .fm)
@@ -214,7 +214,7 @@ no-sense v = false≢true (go v)
 abbrev Idle : State → Type 0
 Idle s = (m : ℕ) → 0 < m → m ≤ mutatorsOf s → processOf s m .part .phase ≡ hand.Idle
 
-module _ (s : State) (c : Choice) (w : WellFormed s) (f : MutatorStores s) (v : Handshakes s) (k : Written s) where
+module _ (s : State) (c : Choice) (w : WellFormed s) (f : MutatorStores s) (v : Handshakes s) (k : CollectorWrote s) where
   plainly : (p : ℕ) → 0 < p → MarksAndFields (pendingFor (s .memory) p)
   plainly p pos = rw (pending-is (s .memory) p) (f p pos)
 
@@ -288,7 +288,7 @@ nobody-out : insideAt (noProcess .place) (noProcess .stage) ≡ false
 unfolding insideAt
 nobody-out = refl
 
-pub holder-noted : (s : State) → WellFormed s → Lock s → Written s → Noted s → HolderNoted s
+pub holder-noted : (s : State) → WellFormed s → Lock s → CollectorWrote s → Noted s → HolderNoted s
 holder-noted s w l k n p e = go (ℕ-discrete p 0) (decLt (mutatorsOf s) p) (l p .0 e)
   where
     go : Dec (p ≡ 0) → Dec (mutatorsOf s < p) → Inside (processOf s p) → processOf s p .sense ≡ s .memory .fm

@@ -34,7 +34,7 @@ use Rattle.claims.specs.Lock.{insideAt, Inside}
 use Rattle.claims.specs.Posted.{postedOf, busyOf}
 use Rattle.claims.specs.Flags.{Flagged}
 use Rattle.claims.specs.Handshakes.{Handshakes}
-use Rattle.claims.specs.Written.{Stretch, Moment, stretchOf, momentOf, entryFor, Wrote, Written}
+use Rattle.claims.specs.Written.{Stretch, Moment, stretchOf, momentOf, entryFor, Wrote, CollectorWrote}
 use Rattle.claims.proofs.Flags.{settled}
 use Rattle.claims.proofs.Answering.{implied}
 use Rattle.claims.proofs.Handshakes.{settled-handshakes}
@@ -112,7 +112,7 @@ not-true-false : (a : Bool) → not a ≡ true → a ≡ false
 not-true-false true e = sym e
 not-true-false false e = refl
 
-pub flip-idle : (s : State) {x : Bool} {l : List Entry} → WellFormed s → Handshakes s → Written s → pendingFor (s .memory) 0 ≡ entryFor (store.Sense x) ∷ l → (m : ℕ) → 0 < m → m ≤ mutatorsOf s → processOf s m .part .phase ≡ hand.Idle
+pub flip-idle : (s : State) {x : Bool} {l : List Entry} → WellFormed s → Handshakes s → CollectorWrote s → pendingFor (s .memory) 0 ≡ entryFor (store.Sense x) ∷ l → (m : ℕ) → 0 < m → m ≤ mutatorsOf s → processOf s m .part .phase ≡ hand.Idle
 flip-idle s w v k e m a b =
     let q = processOf s 0 in
     let f = sense-flips (rw (sym (pending-is (s .memory) 0) ∙ e) at k) in
@@ -179,7 +179,7 @@ out-busy o m f e = go (split (busyOf (o .place) (o .stage)))
 both : {a b : Bool} → a ≡ true → b ≡ true → (a and b) ≡ true
 both e f = rw (e, f) refl
 
-pub idle-phase : (s : State) → WellFormed s → Handshakes s → Written s → (m : ℕ) → 0 < m → m ≤ mutatorsOf s → processOf s m .part .phase ≡ hand.Idle → s .memory .phase .phase ≡ phase.Idle
+pub idle-phase : (s : State) → WellFormed s → Handshakes s → CollectorWrote s → (m : ℕ) → 0 < m → m ≤ mutatorsOf s → processOf s m .part .phase ≡ hand.Idle → s .memory .phase .phase ≡ phase.Idle
 idle-phase s w v k m a b e = calm-phase k (go (idle-line (rw e at (v .table m a b .line))))
   where
     o : Process
@@ -230,5 +230,5 @@ inside-rule : Checked insideRule
 unfolding insideAt
 inside-rule = ((((((((tt, refl), refl), refl), refl), refl), refl), refl), refl)
 
-pub scan-sense : (s : State) → WellFormed s → Written s → Inside (processOf s 0) → processOf s 0 .sense ≡ s .memory .fm
+pub scan-sense : (s : State) → WellFormed s → CollectorWrote s → Inside (processOf s 0) → processOf s 0 .sense ≡ s .memory .fm
 scan-sense s w k i = marks-sense k (implied (insideAt (processOf s 0 .place) (processOf s 0 .stage)) (ruled insideRule inside-rule s w) i)

@@ -32,7 +32,7 @@ run-table h f cs = run-inv h f cs .handshakes .table
 pub run-unbroken : RunUnbroken
 run-unbroken h f cs e =
     let v = run-inv h f cs in
-    let b = formed-verdicts _ (v .formed) .table .0 e .2 in
+    let b = formed-verdicts _ (v .formed) .handshake .0 e .2 in
     b .1 .wrong (v .handshakes .table (b .0) (b .1 .above) (b .1 .mutator))
 
 pub run-lock : RunLock

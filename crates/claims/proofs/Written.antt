@@ -32,7 +32,7 @@ use Rattle.memory.proofs.Shapes.{Shaped, pending-is, view-empty}
 use Rattle.memory.proofs.Spots.{Alike, held-sense}
 use Rattle.memory.proofs.Sights.{look-sense-taken}
 use Rattle.memory.proofs.Effects.{Committed, write-taken, fence-taken, lock-taken, unlock-taken, commit-taken}
-use Rattle.memory_formed.specs.WellFormed as sound
+use Rattle.memory_formed.specs.WellFormed.{MemoryFormed}
 use Rattle.memory_formed.proofs.Shapes.{shaped}
 use Rattle.state.specs.declared.RoundType.{RoundType}
 use Rattle.state.specs.declared.Process.{Process}
@@ -51,7 +51,7 @@ use Rattle.formed.proofs.Gives.{collector-within, sweep-free-at}
 use Rattle.stays_formed.proofs.Kept.{row-kept}
 use Rattle.stays_formed.proofs.Leaves.{row-others}
 use Rattle.claims.specs.Pending.{MarkOrField, MarksAndFields, MutatorStores}
-use Rattle.claims.specs.Written.{Stretch, Moment, stretchOf, momentOf, entryFor, Wrote, Written}
+use Rattle.claims.specs.Written.{Stretch, Moment, stretchOf, momentOf, entryFor, Wrote, CollectorWrote}
 use Rattle.claims.proofs.Moves.{Quiet, Outer, Goes, row-goes, frees-quiet}
 use Rattle.claims.proofs.Commits.{senseAfter, allocAfter, phaseAfter, fm-after, fa-after, phase-after}
 
@@ -132,7 +132,7 @@ like e f g i v = rw (e, f, g, i) v
 abbrev standing : PhaseWord → Phase
 standing i = i .phase
 
-commit-known : (q : Process) {m n : Memory} → sound.WellFormed m → commitOf m 0 ≡ taken n → Known q m → Known q n
+commit-known : (q : Process) {m n : Memory} → MemoryFormed m → commitOf m 0 ≡ taken n → Known q m → Known q n
 commit-known q {m} w e v =
     let k = commit-taken 0 (shaped m w) e in
     like (k .own) (fm-after w 0 k) (fa-after w 0 k) (phase-after w 0 k) (after (rw (k .before) at v))
@@ -317,7 +317,7 @@ arrives : {t : State} → WellFormed t → Turned t → Known (processOf t 0) (t
 arrives w (Turned.turned x o g) = rw (arrived x 0 o (omega arith) w) g
 
 -- ---- the mutators' steps: their stores are marks and fields
-oldest-keeps : {m n : Memory} (p : ℕ) → (0 ≡ p → ⊥) → sound.WellFormed m → MarksAndFields (pendingFor m p) → Committed m p n → Keeps m n
+oldest-keeps : {m n : Memory} (p : ℕ) → (0 ≡ p → ⊥) → MemoryFormed m → MarksAndFields (pendingFor m p) → Committed m p n → Keeps m n
 oldest-keeps {m} {n} p ne w f k = go (f (k .oldest) (rw (k .before) (List·Memᴰ·head refl))) (fm-after w p k) (fa-after w p k) (phase-after w p k)
   where
     go : {v : Store} → MarkOrField v → n .fm ≡ senseAfter v (m .fm) → n .fa ≡ allocAfter v (m .fa) → n .phase .phase ≡ phaseAfter v (m .phase .phase) → Keeps m n
@@ -328,7 +328,7 @@ outer-keeps : {p : ℕ} {m n : Memory} → (0 ≡ p → ⊥) → Shaped m → Ou
 outer-keeps ne z (Outer.quiet k) = quiet-keeps k
 outer-keeps {p} ne z (Outer.writes {v} k i e) = let g = write-taken p (entryFor v) z e in alike-keeps (g .others 0 ne) (g .alike)
 
-goes-keeps : {p : ℕ} {q o : Process} {m n : Memory} → (0 ≡ p → ⊥) → sound.WellFormed m → MarksAndFields (pendingFor m p) → Goes p q m o n → Keeps m n
+goes-keeps : {p : ℕ} {q o : Process} {m n : Memory} → (0 ≡ p → ⊥) → MemoryFormed m → MarksAndFields (pendingFor m p) → Goes p q m o n → Keeps m n
 goes-keeps {p} ne w f (Goes.locks a b e) = let g = lock-taken p e .after in alike-keeps (g .pending 0) (g .alike)
 goes-keeps ne w f (Goes.looks a u b) = record { pending = refl; fm = refl; fa = refl; phase = refl }
 goes-keeps {p} {m = m} ne w f (Goes.writes a u b v r d e) = let g = write-taken p _ (shaped m w) e in alike-keeps (g .others 0 ne) (g .alike)
@@ -351,9 +351,9 @@ module _ (s : State) (c : Choice) (w : WellFormed s) (f : MutatorStores s) where
   known v (Row.mutator k e pos mine r) (yes i) = absurd (omega arith)
   known v (Row.commits k e mine b {m = n} h) (yes i) = commit-known (processOf s 0) (w .memory) (named (λ x. commitOf (s .memory) x ≡ taken n) (i ∙ e) h) v
 
-  pub step-written : {t : State} → Written s → Row s c t → Written t
+  pub step-written : {t : State} → CollectorWrote s → Row s c t → CollectorWrote t
   step-written {t} v r = rw (← pending-is (t .memory) 0) (known (rw (pending-is (s .memory) 0) v) r (ℕ-discrete 0 (c .process)))
 
-pub opening-written : (h : Heap) → HeapFits h → Written (openingOf h)
+pub opening-written : (h : Heap) → HeapFits h → CollectorWrote (openingOf h)
 unfolding openingOf openMemory openCollector
 opening-written h f = Wrote.rests

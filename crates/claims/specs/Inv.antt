@@ -6,7 +6,7 @@ use Rattle.claims.specs.Runs.{Always}
 use Rattle.claims.specs.Handshakes.{Handshakes}
 use Rattle.claims.specs.Lock.{Lock}
 use Rattle.claims.specs.Pending.{MarksWait, MutatorStores}
-use Rattle.claims.specs.Written.{Written}
+use Rattle.claims.specs.Written.{CollectorWrote}
 use Rattle.claims.specs.Noted.{Noted}
 
 pub record Inv (s : State) : Type 0 where
@@ -22,7 +22,7 @@ pub record Inv (s : State) : Type 0 where
   -- a mutator has only marks and fields pending
   pub stores : MutatorStores s
   -- the collector's pending stores and memory's fM, fA and phase are told by the collector's place
-  pub written : Written s
+  pub written : CollectorWrote s
   -- past its read of fM a mutator that has left Idle has noted memory's fM, and past the read of the phase it has
   -- left Idle
   pub noted : Noted s

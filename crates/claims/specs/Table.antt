@@ -3,7 +3,7 @@ use mathlib.Core.Path.{_≡_}
 use Prim.Native.Nat.{ℕ, _≤_, _<_}
 use Rattle.state.specs.declared.State.{State}
 use Rattle.state.specs.States.{mutatorsOf, processOf}
-use Rattle.verdict.specs.Judged.{isTable}
+use Rattle.verdict.specs.Judged.{isHandshake}
 use Rattle.verdict.specs.Findings.{findingOf}
 use Rattle.verdict.specs.Table.{Right}
 use Rattle.claims.specs.Runs.{Always}
@@ -14,7 +14,7 @@ Table s = (m : ℕ) → 0 < m → m ≤ mutatorsOf s → Right (s .system) (proc
 
 -- the judge's finding is not "3: the handshake table is broken"
 abbrev pub Unbroken : State → Type 0
-Unbroken s = findingOf s .verdict ≡ isTable → ⊥
+Unbroken s = findingOf s .verdict ≡ isHandshake → ⊥
 
 -- demand 3, after any choices: "each mutator stands in the handshake table with the collector, at most one round
 -- behind"

@@ -94,7 +94,7 @@ pub data Wrote (n : Bool) : Stretch → Moment → List Entry → Bool → Bool 
   sweeps : {w : Moment} → Wrote n Stretch.sweeps w [] n n phase.Sweep
 
 -- so it is of the state
-abbrev pub Written : State → Type 0
-Written s =
+abbrev pub CollectorWrote : State → Type 0
+CollectorWrote s =
     Wrote (processOf s 0 .sense) (stretchOf (processOf s 0 .place)) (momentOf (processOf s 0 .place) (processOf s 0 .stage)) (waitingOf s 0) (s .memory .fm) (s .memory .fa)
     (s .memory .phase .phase)

@@ -1,6 +1,6 @@
 -- How great the numbers of an outcome can be. Assumes nothing.
 --     judged-ranged
-use mathlib.Core.Path.{_≡_, refl}
+use mathlib.Core.Path.{refl}
 use mathlib.Core.List.{List}
 use Prim.Native.Nat.{ℕ, _/_, _≤_}
 use native.Mathlib.Omega.{arith}
@@ -9,7 +9,7 @@ use Rattle.base.specs.Refusals.{fewLeft}
 use Rattle.state.specs.declared.State.{State}
 use Rattle.engine.proofs.Theorems.{numbered}
 use Rattle.verdict.specs.declared.Finding.{Finding}
-use Rattle.verdict.specs.Judged.{isMalformed, Judged, loose, black, table, clean}
+use Rattle.verdict.specs.Judged.{isMalformed, Judged, loose, blackToWhite, handshake, sound}
 use Rattle.verdict.specs.Findings.{Found, malformed, formed, findingOf}
 use Rattle.verdict.proofs.Formed.{found-exactly}
 use Rattle.header.specs.Header.{maxLog}
@@ -17,13 +17,13 @@ use Rattle.runlog.specs.Records.{recordSize}
 use Rattle.runlog.specs.Runs.{judgeOf}
 use Rattle.runlog.specs.Rule.{recordOf, Taken, none, more, Stops, ended, short, wrong, refused, Judges, shut, runs}
 use Rattle.runlog.proofs.Exacts.{outcome-exactly}
-use Rattle.claysaucer.specs.Statements.{Ranged, JudgedRanged}
+use Rattle.claysaucer.specs.Statements.{OutcomeRanged, JudgedRanged}
 
 judged-verdict : {s : State} {f : Finding} → Judged s f → f .verdict ≤ isMalformed
 judged-verdict (loose l) = omega arith
-judged-verdict (black n l) = omega arith
-judged-verdict (table n m l) = omega arith
-judged-verdict (clean n m l) = omega arith
+judged-verdict (blackToWhite n l) = omega arith
+judged-verdict (handshake n m l) = omega arith
+judged-verdict (sound n m l) = omega arith
 
 found-verdict : {s : State} {f : Finding} → Found s f → f .verdict ≤ isMalformed
 found-verdict (malformed n) = omega arith
@@ -43,7 +43,7 @@ taken-ranged l (more k s t p w r e) = omega arith
 pub judged-ranged : JudgedRanged
 judged-ranged log = go (outcome-exactly log (judgeOf log) .0 refl)
   where
-    go : Judges log (judgeOf log) → Ranged (judgeOf log)
+    go : Judges log (judgeOf log) → OutcomeRanged (judgeOf log)
     go (shut n u) = record { verdict = omega (arith, u .verdict); stop = omega (arith, u .stop); steps = omega (arith, u .steps) }
     go (runs a r) =
         let v = found-verdict (found-exactly (r .state) (findingOf (r .state)) .0 refl) in

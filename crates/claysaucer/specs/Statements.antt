@@ -29,13 +29,13 @@ Unpacks = (o : Outcome) → Fitting o → Unpacked o (packedOf o)
 
 -- of every log: the verdict is at most 4, the stop at most 14, and there are no more steps than a log has room for
 -- records
-pub record Ranged (o : Outcome) : Type 0 where
+pub record OutcomeRanged (o : Outcome) : Type 0 where
   pub verdict : o .verdict ≤ isMalformed
   pub stop : o .stop ≤ fewLeft
   pub steps : o .steps ≤ maxLog / recordSize
 
 abbrev pub JudgedRanged : Type 0
-JudgedRanged = (log : List ℕ) → Ranged (judgeOf log)
+JudgedRanged = (log : List ℕ) → OutcomeRanged (judgeOf log)
 
 -- "The C test bench gives the log as bytes and gets the same three numbers."
 abbrev pub SameNumbers : Type 0

@@ -70,9 +70,6 @@ unfoldable pub collectorAsk : Choice → Process → Ask
 collectorAsk c q = pick (isRound (q .place)) (roundAsk q) (rowAsk c q)
 
 -- ---- how it goes on
-abbrev pub to : ℕ → ℕ → Process → Process
-to k j q = at k j q
-
 -- row 2: "read fM, then write its opposite, which becomes the noted fM"
 unfoldable pub sensed : Bool → Process → Process
 sensed b q = at row2Write (q .stage) (marking (q .cell) (q .look) b (q .grey) q)
@@ -132,16 +129,16 @@ unfoldable pub rowGo : Choice → ℕ → Sight → Process → Process
 rowGo c n v q =
     pick (eqb (q .place) row2Read) (sensed (bitOf (v .store)) q)
     (pick (eqb (q .place) row2Write) (flipped q)
-    (pick (eqb (q .place) row4Write) (to row4Round fenceStage q)
-    (pick (eqb (q .place) row5Phase) (to row5Alloc noStage q)
-    (pick (eqb (q .place) row5Alloc) (to row5Round fenceStage q)
+    (pick (eqb (q .place) row4Write) (at row4Round fenceStage q)
+    (pick (eqb (q .place) row5Phase) (at row5Alloc noStage q)
+    (pick (eqb (q .place) row5Alloc) (at row5Round fenceStage q)
     (pick (eqb (q .place) row7Read0) (scanning (c .x) (valueOf (v .store)) row7Mark0 row7Read1 q)
     (pick (eqb (q .place) row7Read1) (scanning (q .x) (valueOf (v .store)) row7Mark1 row7Drop q)
     (pick (eqb (q .place) row7Drop) (dropping (removeOf (q .work) (q .x)) q)
     (pick (eqb (q .place) row9Write) (sweepFrom n q)
     (pick (eqb (q .place) row10Look) (swept (c .x) (v .used) (bitOf (v .store)) q)
     (pick (eqb (q .place) row10Free) (sweeping q)
-    (pick (eqb (q .place) row11Write) (to row1Round fenceStage q)
+    (pick (eqb (q .place) row11Write) (at row1Round fenceStage q)
     q)))))))))))
 
 -- rows 6 and 8: "take the system's list (one step, emptying it; ..)"

@@ -19,7 +19,8 @@ use state::codes::Place;
 use state::codes::RoundStage;
 use state::codes::Stage;
 ghost use mathlib.Core.Path.{_≡_};
-ghost use Rattle.collector.specs.Collectors.{isRound, rowOffers, collectorOffers, rowAsk, collectorAsk, to, sensed, flipped, taking, scanning, dropping, sweepFrom, sweeping, swept, rowRound, rowGo, listGo, collectorGo};
+ghost use Rattle.state.specs.States.{at};
+ghost use Rattle.collector.specs.Collectors.{isRound, rowOffers, collectorOffers, rowAsk, collectorAsk, sensed, flipped, taking, scanning, dropping, sweepFrom, sweeping, swept, rowRound, rowGo, listGo, collectorGo};
 
 // The rounds of rows 1, 3, 4, 5, 6 and 8.
 fn is_round(place: u8) -> bool
@@ -98,7 +99,7 @@ pub fn ask(c: Choice, q: Process) -> Ask
 }
 
 fn to(place: u8, stage: u8, mut q: Process) -> Process
-    ensures { λ r. ⌜ r ≡ to place stage q ⌝ }
+    ensures { λ r. ⌜ r ≡ at place stage q ⌝ }
 {
     q.place = place;
     q.stage = stage;

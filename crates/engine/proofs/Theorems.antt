@@ -37,7 +37,7 @@ use Rattle.model.proofs.CollectorRows.{collector-complete}
 use Rattle.model.proofs.Commits.{commit-view, commit-row}
 use Rattle.stays_formed.proofs.Kept.{row-kept}
 use Rattle.engine.specs.Steps.{innerOf, stepOf}
-use Rattle.engine.specs.Statements.{First, lastNo, Refused, Answered, Numbered, MalformedExactly, Exact, Kept, InnerFormed, One}
+use Rattle.engine.specs.Statements.{First, lastNo, Refused, Answered, Numbered, MalformedExactly, Exact, Kept, InnerFormed, OneAnswer}
 use Rattle.engine.proofs.ByKind.{inner-absent, inner-own, inner-commit, inner-unknown}
 use Rattle.engine.proofs.Located.{buffered, collecting, mutating}
 
@@ -223,5 +223,5 @@ pub kept : Kept
 kept s c w = keeps w (whole s c)
 
 -- ---- only one answer
-pub one-step : One
+pub one-step : OneAnswer
 one-step s c a b e f = e ∙ sym f

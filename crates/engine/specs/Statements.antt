@@ -50,5 +50,5 @@ abbrev pub InnerFormed : Type 0
 InnerFormed = (s : State) (c : Choice) → WellFormed s → stepOf s c ≡ innerOf s c
 
 -- only one answer meets the contract `r ≡ stepOf s c`
-abbrev pub One : Type 0
-One = (s : State) (c : Choice) (a b : Answer) → a ≡ stepOf s c → b ≡ stepOf s c → a ≡ b
+abbrev pub OneAnswer : Type 0
+OneAnswer = (s : State) (c : Choice) (a b : Answer) → a ≡ stepOf s c → b ≡ stepOf s c → a ≡ b

@@ -26,7 +26,7 @@ use Rattle.state.specs.Codes.{senseStage, unlockStage, raiseStage}
 use Rattle.formed.specs.declared.table.Uses.{Uses}
 use Rattle.formed.specs.Uses.{usesOf, mutatorsLeft}
 use Rattle.formed.specs.Fits.{StoreNotes, Unnoted, MarkNotes, Unmarked}
-use Rattle.formed.specs.WellFormed.{storeFitsOf, noStoreOf, notesFitOf, leftFitsOf, noMarkOf, lookFitsOf, greyFitsOf, markFitsOf, stageFitsOf, placeFitsOf}
+use Rattle.formed.specs.WellFormed.{storeNotesFitOf, noStoreOf, notesFitOf, leftFitsOf, noMarkOf, lookFitsOf, greyFitsOf, markFitsOf, stageFitsOf, placeFitsOf}
 
 pub late-told : (b : Bool) (k s : ℕ) → pick b (leb k s) true ≡ true → s < k → b ≡ false
 late-told true k s e h = let l : k ≤ s = leb-true k s e in absurd (omega arith)
@@ -42,16 +42,16 @@ late-test false k s h = refl
 
 module _ (n : ℕ) (q : Process) where
   -- ---- the notes of an operation or a row
-  pub store-told : storeFitsOf n q ≡ true → StoreNotes n (q .x) (q .f) (q .y) (q .old)
-  unfolding storeFitsOf
+  pub store-told : storeNotesFitOf n q ≡ true → StoreNotes n (q .x) (q .f) (q .y) (q .old)
+  unfolding storeNotesFitOf
   store-told e =
       let a = and-both (isCellOf n (q .x)) (ltb (q .f) maxFields and leb (q .y) n and leb (q .old) n) e in
       let b = and-both (ltb (q .f) maxFields) (leb (q .y) n and leb (q .old) n) (a .1) in
       let d = and-both (leb (q .y) n) (leb (q .old) n) (b .1) in
       record { is-x = cell-told n (q .x) (a .0); is-f = ltb-true _ _ (b .0); is-y = leb-true _ _ (d .0); is-old = leb-true _ _ (d .1) }
 
-  pub store-test : StoreNotes n (q .x) (q .f) (q .y) (q .old) → storeFitsOf n q ≡ true
-  unfolding storeFitsOf
+  pub store-test : StoreNotes n (q .x) (q .f) (q .y) (q .old) → storeNotesFitOf n q ≡ true
+  unfolding storeNotesFitOf
   store-test w = rw (cell-test n (q .x) (w .is-x), lt-ltb _ _ (w .is-f), le-leb _ _ (w .is-y)) (le-leb _ _ (w .is-old))
 
   -- f, y and old are zero

@@ -21,7 +21,7 @@ use Rattle.state.specs.declared.Process.{Process}
 use Rattle.state.specs.declared.Handshake.{Handshake}
 use Rattle.state.specs.Codes.{storeMarkOld, storeMarkY, storeWrite, rootsMark, workFinish, row1Round, row10Look, row10Free, row11Write, lookStage, senseStage, unlockStage}
 use Rattle.state.specs.States.{listing, shaking}
-use Rattle.formed.specs.Fits.{Among, idlePlaces, plainPlaces, roundPlaces, scanPlaces, scanMarkPlaces, MarkNotes, Idle, StoreMark, StoreWrite, RootsFirst, RootsRest, MutatorAt, idle, mark-old, mark-y, write, roots-first, roots-rest, MutatorFits, Plain, Round, Scan, ScanMark, Sweep, SweepFree, CollectorAt, plain, round, scan, scan-mark, sweep, sweep-free, CollectorFits}
+use Rattle.formed.specs.Fits.{Among, idlePlaces, plainPlaces, roundPlaces, scanPlaces, scanMarkPlaces, MarkNotes, Idle, StoreMark, StoreWrite, RootsFirst, RootsRest, MutatorAt, idle, mark-old, mark-y, write, roots-first, roots-rest, MutatorFits, PlainNotes, RoundNotes, Scan, ScanMark, Sweep, SweepFree, CollectorAt, plain, round, scan, scan-mark, sweep, sweep-free, CollectorFits}
 use Rattle.formed.proofs.Places.{apart, idle-mutator, isCollectors, plain-collector, round-collector, scan-collector, scan-mark-collector}
 
 -- ---- a mutator
@@ -90,7 +90,7 @@ roots-rest-at e k w = ⊎-elim (λ a. absurd (k (a .stage))) (λ a. a) (roots-at
 
 -- ---- the collector
 module _ (n m : ℕ) (q : Process) where
-  plain-in : CollectorAt n m q → Among (q .place) plainPlaces → Plain q
+  plain-in : CollectorAt n m q → Among (q .place) plainPlaces → PlainNotes q
   plain-in (plain g w) h = w
   plain-in (round g w) h = absurd (apart roundPlaces plainPlaces refl (q .place) g h)
   plain-in (scan g w) h = absurd (apart scanPlaces plainPlaces refl (q .place) g h)
@@ -98,7 +98,7 @@ module _ (n m : ℕ) (q : Process) where
   plain-in (sweep g w) h = absurd (false≢true (rw g at h))
   plain-in (sweep-free g w) h = absurd (false≢true (rw g at h))
 
-  round-in : CollectorAt n m q → Among (q .place) roundPlaces → Round m q
+  round-in : CollectorAt n m q → Among (q .place) roundPlaces → RoundNotes m q
   round-in (plain g w) h = absurd (apart plainPlaces roundPlaces refl (q .place) g h)
   round-in (round g w) h = w
   round-in (scan g w) h = absurd (apart scanPlaces roundPlaces refl (q .place) g h)
@@ -138,10 +138,10 @@ module _ (n m : ℕ) (q : Process) where
   sweep-free-in (sweep g w) e = absurd (omega arith)
   sweep-free-in (sweep-free g w) e = w
 
-pub plain-at : {n m : ℕ} {q : Process} (k : ℕ) → Among k plainPlaces → q .place ≡ k → CollectorFits n m q → Plain q
+pub plain-at : {n m : ℕ} {q : Process} (k : ℕ) → Among k plainPlaces → q .place ≡ k → CollectorFits n m q → PlainNotes q
 plain-at {n} {m} {q} k h e w = plain-in n m q (w .notes) (rw e h)
 
-pub round-at : {n m : ℕ} {q : Process} (k : ℕ) → Among k roundPlaces → q .place ≡ k → CollectorFits n m q → Round m q
+pub round-at : {n m : ℕ} {q : Process} (k : ℕ) → Among k roundPlaces → q .place ≡ k → CollectorFits n m q → RoundNotes m q
 round-at {n} {m} {q} k h e w = round-in n m q (w .notes) (rw e h)
 
 pub scan-at : {n m : ℕ} {q : Process} (k : ℕ) → Among k scanPlaces → q .place ≡ k → CollectorFits n m q → Scan n q

@@ -18,7 +18,7 @@ use Rattle.buffers.specs.Stores.{valueOf}
 use Rattle.buffers.specs.Fits.{entryOf}
 use Rattle.memory.specs.declared.Memory.{Memory}
 use Rattle.memory.specs.Memories.{maxMutators, maxProcesses, fieldOf, bufferOf}
-use Rattle.memory_formed.specs.WellFormed as sound
+use Rattle.memory_formed.specs.WellFormed.{MemoryFormed}
 use Rattle.state.specs.declared.Process.{Process}
 use Rattle.state.specs.declared.System.{System}
 use Rattle.state.specs.declared.State.{State}
@@ -80,7 +80,7 @@ module _ (s : State) (w : WellFormed s) where
   keeps-mutator p q a b f = keeps-process p q (λ e. absurd (omega arith)) (λ h g. f) (λ h. absurd (omega arith))
 
   -- ---- memory, with as many cells and processes
-  pub keeps-memory : (m : Memory) → sound.WellFormed m → m .cells ≡ s .memory .cells → m .processes ≡ s .memory .processes → ((c f : ℕ) → fieldOf m c f ≤ m .cells) → ((p i : ℕ) → valueOf (entryOf (bufferOf m p) i .store) ≤ m .cells) → WellFormed (withMemory s m)
+  pub keeps-memory : (m : Memory) → MemoryFormed m → m .cells ≡ s .memory .cells → m .processes ≡ s .memory .processes → ((c f : ℕ) → fieldOf m c f ≤ m .cells) → ((p i : ℕ) → valueOf (entryOf (bufferOf m p) i .store) ≤ m .cells) → WellFormed (withMemory s m)
   keeps-memory m k c p f v =
       record {
         memory = k;

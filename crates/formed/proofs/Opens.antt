@@ -2,7 +2,7 @@
 --     opening-formed
 use mathlib.Core.Path.{_≡_, refl}
 use mathlib.Core.Bool.{Bool, true, false}
-use mathlib.Core.Logic.{_⊎_, ⊎-elim}
+use mathlib.Core.Logic.{⊎-elim}
 use Prim.Native.Nat.{ℕ, zero, suc, _+_, _-_, _≤_, _<_}
 use native.Mathlib.Decide.{ℕ-discrete, decLt}
 use native.Mathlib.Omega.{arith}
@@ -16,7 +16,7 @@ use Rattle.buffers.specs.Buffers.{maxStores, emptyBuffer}
 use Rattle.buffers.specs.Fits.{entryOf}
 use Rattle.buffers.proofs.Wells.{empty-fits}
 use Rattle.memory.specs.Memories.{maxCells, maxProcesses, atCell, noBuffer}
-use Rattle.memory_formed.specs.WellFormed as sound
+use Rattle.memory_formed.specs.WellFormed.{MemoryFormed}
 use Rattle.state.specs.declared.opening.Heap.{Heap}
 use Rattle.state.specs.States.{noProcess, processOf}
 use Rattle.state.specs.Openings.{openMark, openMarks, openMemory, openCollector, openMutator, openProcess, openSystem, rootsAt, openingOf}
@@ -48,7 +48,7 @@ module _ (h : Heap) (w : HeapFits h) where
           rw (ne-eqb c 0 z, listed-at (openMark (h .used)) maxCells (c - 1) false l, k) e
       go (no z) (no l) = rw (ne-eqb c 0 z) (beyond (openMarks (h .used)) false (c - 1) maxCells (length-listed (openMark (h .used)) maxCells) (omega arith))
 
-  memory-opens : sound.WellFormed (openMemory h)
+  memory-opens : MemoryFormed (openMemory h)
   unfolding openMemory openMarks
   memory-opens =
       record {

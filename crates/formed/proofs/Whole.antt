@@ -20,18 +20,18 @@ use Rattle.buffers.specs.Buffers.{maxStores}
 use Rattle.buffers.specs.Fits.{entryOf}
 use Rattle.memory.specs.declared.Memory.{Memory}
 use Rattle.memory.specs.Memories.{maxCells, maxProcesses, atCell, fieldOf, noBuffer, bufferOf}
-use Rattle.memory_formed.specs.WellFormed as sound
-use Rattle.memory_formed.proofs.Wells as sounds
+use Rattle.memory_formed.specs.WellFormed.{MemoryFormed, memoryFormedOf}
+use Rattle.memory_formed.proofs.Wells as memories
 use Rattle.memory_formed.proofs.Shapes.{shaped}
 use Rattle.state.specs.declared.Process.{Process}
 use Rattle.state.specs.declared.State.{State}
 use Rattle.state.specs.States.{noProcess, mutatorsOf}
 use Rattle.formed.specs.Fits.{MutatorFits, CollectorFits, WellFormed}
-use Rattle.formed.specs.WellFormed.{fieldAt, fieldsFitOf, storeAt, storesFitOf, bufferAt, pendingFitOf, valuesFitOf, processFitsOf, processAt, procsFitOf, wellFormedOf}
+use Rattle.formed.specs.WellFormed.{fieldFitsAt, fieldsFitOf, storeFitsAt, storesFitOf, bufferFitsAt, pendingFitOf, valuesFitOf, processFitsOf, processAt, procsFitOf, wellFormedOf}
 use Rattle.formed.proofs.Agrees.{mutator-told, mutator-test, collector-told, collector-test, nobody-told, nobody-test}
 
 -- memory is well formed: every buffer has room for its stores, that of a process above M too
-entries-sized : (m : Memory) → sound.WellFormed m → (p : ℕ) → p < maxProcesses → length (bufferOf m p .entries) ≡ maxStores
+entries-sized : (m : Memory) → MemoryFormed m → (p : ℕ) → p < maxProcesses → length (bufferOf m p .entries) ≡ maxStores
 entries-sized m w p h = shaped m w .sized p h .entries
 
 -- ---- values of fields
@@ -40,17 +40,17 @@ unfolding fieldsFitOf
 at-told n l s e c = picked (λ v. v ≤ n) (eqb c 0) (omega arith) (go (decLt (c - 1) maxCells))
   where
     go : Dec (c - 1 < maxCells) → getD l (c - 1) 0 ≤ n
-    go (yes h) = leb-true _ _ (every-at (fieldAt n l) maxCells (c - 1) e h)
+    go (yes h) = leb-true _ _ (every-at (fieldFitsAt n l) maxCells (c - 1) e h)
     go (no h) = let z : getD l (c - 1) 0 ≡ 0 = beyond l 0 (c - 1) maxCells s (omega arith) in omega arith
 
 at-test : (n : ℕ) (l : List ℕ) → ((c : ℕ) → atCell l c 0 ≤ n) → fieldsFitOf n l ≡ true
 unfolding fieldsFitOf
-at-test n l h = every-all (fieldAt n l) maxCells (λ i k. le-leb _ _ (at i))
+at-test n l h = every-all (fieldFitsAt n l) maxCells (λ i k. le-leb _ _ (at i))
   where
     at : (i : ℕ) → getD l i 0 ≤ n
     at i = let e : suc i - 1 ≡ i = omega arith in rw (eqb·suc-zero i, e) at (h (suc i))
 
-module _ (m : Memory) (z : sound.WellFormed m) where
+module _ (m : Memory) (z : MemoryFormed m) where
   values-told : valuesFitOf m ≡ true → ((c f : ℕ) → fieldOf m c f ≤ m .cells) × ((p i : ℕ) → valueOf (entryOf (bufferOf m p) i .store) ≤ m .cells)
   unfolding valuesFitOf pendingFitOf storesFitOf
   values-told e =
@@ -62,7 +62,7 @@ module _ (m : Memory) (z : sound.WellFormed m) where
       none = omega arith
 
       entry : (p i : ℕ) → p < maxProcesses → pendingFitOf (m .cells) (m .buffers) ≡ true → Dec (i < maxStores) → valueOf (entryOf (bufferOf m p) i .store) ≤ m .cells
-      entry p i h e (yes l) = leb-true _ _ (every-at (storeAt (m .cells) (bufferOf m p)) maxStores i (every-at (bufferAt (m .cells) (m .buffers)) maxProcesses p e h) l)
+      entry p i h e (yes l) = leb-true _ _ (every-at (storeFitsAt (m .cells) (bufferOf m p)) maxStores i (every-at (bufferFitsAt (m .cells) (m .buffers)) maxProcesses p e h) l)
       entry p i h e (no l) = rw (beyond (bufferOf m p .entries) noEntry i maxStores (entries-sized m z p h) (omega arith)) none
 
       buffer : (p i : ℕ) → pendingFitOf (m .cells) (m .buffers) ≡ true → Dec (p < maxProcesses) → valueOf (entryOf (bufferOf m p) i .store) ≤ m .cells
@@ -73,7 +73,7 @@ values-test : (m : Memory) → ((c f : ℕ) → fieldOf m c f ≤ m .cells) → 
 unfolding valuesFitOf pendingFitOf storesFitOf
 values-test m f e =
     rw (at-test (m .cells) (m .field0) (λ c. f c 0), at-test (m .cells) (m .field1) (λ c. f c 1))
-    (every-all (bufferAt (m .cells) (m .buffers)) maxProcesses (λ p h. every-all (storeAt (m .cells) (bufferOf m p)) maxStores (λ i l. le-leb _ _ (e p i))))
+    (every-all (bufferFitsAt (m .cells) (m .buffers)) maxProcesses (λ p h. every-all (storeFitsAt (m .cells) (bufferOf m p)) maxStores (λ i l. le-leb _ _ (e p i))))
 
 -- ---- the processes
 module _ (n m : ℕ) (qs : List Process) where
@@ -123,10 +123,10 @@ module _ (s : State) where
   told e =
       let m = s .memory in
       let n = m .cells in
-      let a = and-both (sound.wellFormedOf m) (valuesFitOf m and procsFitOf n (mutatorsOf s) (s .procs) and belowOf (s .system .work) n) e in
+      let a = and-both (memoryFormedOf m) (valuesFitOf m and procsFitOf n (mutatorsOf s) (s .procs) and belowOf (s .system .work) n) e in
       let b = and-both (valuesFitOf m) (procsFitOf n (mutatorsOf s) (s .procs) and belowOf (s .system .work) n) (a .1) in
       let d = and-both (procsFitOf n (mutatorsOf s) (s .procs)) (belowOf (s .system .work) n) (b .1) in
-      let w = sounds.well-formed m .0 (a .0) in
+      let w = memories.well-formed m .0 (a .0) in
       let v = values-told m w (b .0) in
       let few : mutatorsOf s < maxProcesses = omega (arith, w .some-processes, w .few-processes) in
       record {
@@ -143,7 +143,7 @@ module _ (s : State) where
   test : WellFormed s → wellFormedOf s ≡ true
   unfolding wellFormedOf
   test w =
-      rw (sounds.well-formed (s .memory) .1 (w .memory), values-test (s .memory) (w .fields) (w .pending), procs-test (s .memory .cells) (mutatorsOf s) (s .procs) (w .sized) (w .collector) (w .mutators) (w .nobody)) (w .system)
+      rw (memories.well-formed (s .memory) .1 (w .memory), values-test (s .memory) (w .fields) (w .pending), procs-test (s .memory .cells) (mutatorsOf s) (s .procs) (w .sized) (w .collector) (w .mutators) (w .nobody)) (w .system)
 
   pub well-formed : (wellFormedOf s ≡ true) ↔ WellFormed s
   well-formed = (told, test)

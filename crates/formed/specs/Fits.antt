@@ -14,7 +14,7 @@ use Rattle.cells.specs.Sets.{noCells, memberOf, Member, Sub, belowOf}
 use Rattle.buffers.specs.Stores.{valueOf}
 use Rattle.buffers.specs.Fits.{maxFields, IsCell, entryOf}
 use Rattle.memory.specs.Memories.{maxCells, maxProcesses, atCell, fieldOf, bufferOf}
-use Rattle.memory_formed.specs.WellFormed as sound
+use Rattle.memory_formed.specs.WellFormed.{MemoryFormed}
 use Rattle.state.specs.declared.Process.{Process}
 use Rattle.state.specs.declared.State.{State}
 use Rattle.state.specs.Codes.{top, storeMarkOld, storeMarkY, storeWrite, noopFence, noopFinish, rootsFence, rootsMark, rootsFinish, workFence, workFinish, row1Round, row2Read, row2Write, row3Round, row4Write, row4Round, row5Phase, row5Alloc, row5Round, row6Round, row6Take, row7Read0, row7Mark0, row7Read1, row7Mark1, row7Drop, row8Round, row8Take, row9Write, row10Look, row10Free, row11Write, noStage, lookStage, senseStage, phaseStage, unlockStage, raiseStage, pollStage}
@@ -138,7 +138,7 @@ pub record MutatorFits (n : ℕ) (q : Process) : Type 0 where
 
 -- ---- the collector, place by place
 -- nothing
-pub record Plain (q : Process) : Type 0 where
+pub record PlainNotes (q : Process) : Type 0 where
   pub stage : q .stage ≡ noStage
   pub no-x : q .x ≡ 0
   pub left : q .left ≡ noCells
@@ -146,7 +146,7 @@ pub record Plain (q : Process) : Type 0 where
 
 -- "fence; set type ..; raise each flag once, x naming the mutator; poll, x naming one still awaited": mutators are
 -- left from the third stage
-pub record Round (m : ℕ) (q : Process) : Type 0 where
+pub record RoundNotes (m : ℕ) (q : Process) : Type 0 where
   pub begun : 0 < q .stage
   pub running : q .stage ≤ pollStage
   pub no-x : q .x ≡ 0
@@ -180,8 +180,8 @@ pub record SweepFree (n : ℕ) (q : Process) : Type 0 where
   pub mark : Unmarked (q .cell) (q .look) (q .grey)
 
 pub data CollectorAt (n m : ℕ) (q : Process) : Type 0 where
-  plain : Among (q .place) plainPlaces → Plain q → CollectorAt n m q
-  round : Among (q .place) roundPlaces → Round m q → CollectorAt n m q
+  plain : Among (q .place) plainPlaces → PlainNotes q → CollectorAt n m q
+  round : Among (q .place) roundPlaces → RoundNotes m q → CollectorAt n m q
   scan : Among (q .place) scanPlaces → Scan n q → CollectorAt n m q
   scan-mark : Among (q .place) scanMarkPlaces → ScanMark n q → CollectorAt n m q
   sweep : q .place ≡ row10Look → Sweep n q → CollectorAt n m q
@@ -201,7 +201,7 @@ pub record CollectorFits (n m : ℕ) (q : Process) : Type 0 where
 pub record WellFormed (s : State) : Type 0 where
   -- "a count, cell, .. or buffer length out of range"; "a free cell's mark and fields, cells above N, .. entries past
   -- a buffer's length"
-  pub memory : sound.WellFormed (s .memory)
+  pub memory : MemoryFormed (s .memory)
   -- "a .. cell .. out of range": the value of a field, in memory and pending; 0 is null
   pub fields : (c f : ℕ) → fieldOf (s .memory) c f ≤ s .memory .cells
   pub pending : (p i : ℕ) → valueOf (entryOf (bufferOf (s .memory) p) i .store) ≤ s .memory .cells

@@ -15,7 +15,7 @@ use Rattle.buffers.specs.Buffers.{maxStores}
 use Rattle.buffers.specs.Fits.{maxFields, isCellOf, entryOf}
 use Rattle.memory.specs.declared.Memory.{Memory}
 use Rattle.memory.specs.Memories.{maxCells, maxProcesses, noBuffer}
-use Rattle.memory_formed.specs.WellFormed as sound
+use Rattle.memory_formed.specs.WellFormed.{memoryFormedOf}
 use Rattle.state.specs.declared.Part.{Part}
 use Rattle.state.specs.declared.Process.{Process}
 use Rattle.state.specs.declared.State.{State}
@@ -24,37 +24,37 @@ use Rattle.state.specs.States.{noProcess, phaseNumber, mutatorsOf}
 use Rattle.formed.specs.Uses.{ofStore, aCell, cellsLeft, mutatorsLeft, ofOld, ofY, ofCell, ofNamed, ofRound, usesOf}
 
 -- ---- field values, in memory and pending: "Cells 1..N"; "0 is null"
-abbrev pub fieldAt : ℕ → List ℕ → ℕ → Bool
-fieldAt n l i = leb (getD l i 0) n
+abbrev pub fieldFitsAt : ℕ → List ℕ → ℕ → Bool
+fieldFitsAt n l i = leb (getD l i 0) n
 
 unfoldable pub fieldsFitOf : ℕ → List ℕ → Bool
-fieldsFitOf n l = every maxCells (fieldAt n l)
+fieldsFitOf n l = every maxCells (fieldFitsAt n l)
 
-abbrev pub storeAt : ℕ → Buffer → ℕ → Bool
-storeAt n b i = leb (valueOf (entryOf b i .store)) n
+abbrev pub storeFitsAt : ℕ → Buffer → ℕ → Bool
+storeFitsAt n b i = leb (valueOf (entryOf b i .store)) n
 
 unfoldable pub storesFitOf : ℕ → Buffer → Bool
-storesFitOf n b = every maxStores (storeAt n b)
+storesFitOf n b = every maxStores (storeFitsAt n b)
 
-abbrev pub bufferAt : ℕ → List Buffer → ℕ → Bool
-bufferAt n bs p = storesFitOf n (getD bs p noBuffer)
+abbrev pub bufferFitsAt : ℕ → List Buffer → ℕ → Bool
+bufferFitsAt n bs p = storesFitOf n (getD bs p noBuffer)
 
 unfoldable pub pendingFitOf : ℕ → List Buffer → Bool
-pendingFitOf n bs = every maxProcesses (bufferAt n bs)
+pendingFitOf n bs = every maxProcesses (bufferFitsAt n bs)
 
 unfoldable pub valuesFitOf : Memory → Bool
 valuesFitOf m = fieldsFitOf (m .cells) (m .field0) and fieldsFitOf (m .cells) (m .field1) and pendingFitOf (m .cells) (m .buffers)
 
 -- ---- the notes of an operation or a row
-unfoldable pub storeFitsOf : ℕ → Process → Bool
-storeFitsOf n q = isCellOf n (q .x) and ltb (q .f) maxFields and leb (q .y) n and leb (q .old) n
+unfoldable pub storeNotesFitOf : ℕ → Process → Bool
+storeNotesFitOf n q = isCellOf n (q .x) and ltb (q .f) maxFields and leb (q .y) n and leb (q .old) n
 
 unfoldable pub noStoreOf : Process → Bool
 noStoreOf q = eqb (q .f) 0 and eqb (q .y) 0 and eqb (q .old) 0
 
 unfoldable pub notesFitOf : ℕ → ℕ → Process → Bool
 notesFitOf used n q =
-    pick (eqb used ofStore) (storeFitsOf n q)
+    pick (eqb used ofStore) (storeNotesFitOf n q)
     (pick (eqb used aCell) (isCellOf n (q .x) and noStoreOf q)
     (eqb (q .x) 0 and noStoreOf q))
 
@@ -129,5 +129,5 @@ procsFitOf n m qs = eqb (length qs) maxProcesses and every maxProcesses (process
 -- ---- the whole: memory by itself, the values in it, the processes, the system's work list
 unfoldable pub wellFormedOf : State → Bool
 wellFormedOf s =
-    sound.wellFormedOf (s .memory) and valuesFitOf (s .memory) and procsFitOf (s .memory .cells) (mutatorsOf s) (s .procs)
+    memoryFormedOf (s .memory) and valuesFitOf (s .memory) and procsFitOf (s .memory .cells) (mutatorsOf s) (s .procs)
     and belowOf (s .system .work) (s .memory .cells)

@@ -7,11 +7,11 @@ use state::codes::MarkStage;
 use state::codes::RoundStage;
 use state::codes::Stage;
 ghost use mathlib.Core.Path.{_≡_};
-ghost use Rattle.formed.specs.WellFormed.{storeFitsOf, noStoreOf, notesFitOf, leftFitsOf, noMarkOf, lookFitsOf, greyFitsOf, markFitsOf, roundFitsOf, namedFitsOf, stageFitsOf, placeFitsOf};
+ghost use Rattle.formed.specs.WellFormed.{storeNotesFitOf, noStoreOf, notesFitOf, leftFitsOf, noMarkOf, lookFitsOf, greyFitsOf, markFitsOf, roundFitsOf, namedFitsOf, stageFitsOf, placeFitsOf};
 
 // The notes of a running store: a cell, one of its fields, two values.
 fn store_fits(n: u8, q: Process) -> bool
-    ensures { λ r. ⌜ r ≡ storeFitsOf n q ⌝ }
+    ensures { λ r. ⌜ r ≡ storeNotesFitOf n q ⌝ }
 {
     if is_cell(n, q.x) {
         if q.f < Spot::FIELDS {

@@ -22,16 +22,19 @@ fn sense_fits(q: Process) -> bool
 fn mutator_fits(n: u8, m: u8, q: Process) -> bool
     ensures { λ r. ⌜ r ≡ mutatorFitsOf n m q ⌝ }
 {
-    if q.place <= Place::WORK_FINISH {
-        if notes::place_fits(n, m, q) {
-            if cells::below(q.roots, n) {
-                if cells::below(q.work, n) {
-                    return sense_fits(q);
-                }
-            }
-        }
+    if Place::WORK_FINISH < q.place {
+        return false;
     }
-    false
+    if !notes::place_fits(n, m, q) {
+        return false;
+    }
+    if !cells::below(q.roots, n) {
+        return false;
+    }
+    if !cells::below(q.work, n) {
+        return false;
+    }
+    sense_fits(q)
 }
 
 // No part in the handshakes.
@@ -54,18 +57,22 @@ fn collector_fits(n: u8, m: u8, q: Process) -> bool
     ensures { λ r. ⌜ r ≡ collectorFitsOf n m q ⌝ }
 {
     let part = q.part;
-    if Place::ROW1_ROUND <= q.place {
-        if q.place <= Place::ROW11_WRITE {
-            if notes::place_fits(n, m, q) {
-                if cells::below(q.work, n) {
-                    if q.roots == 0 {
-                        return no_part(part);
-                    }
-                }
-            }
-        }
+    if q.place < Place::ROW1_ROUND {
+        return false;
     }
-    false
+    if Place::ROW11_WRITE < q.place {
+        return false;
+    }
+    if !notes::place_fits(n, m, q) {
+        return false;
+    }
+    if !cells::below(q.work, n) {
+        return false;
+    }
+    if q.roots != 0 {
+        return false;
+    }
+    no_part(part)
 }
 
 // "processes above M" are unused: all zero.
@@ -73,19 +80,22 @@ fn is_nobody(q: Process) -> bool
     ensures { λ r. ⌜ r ≡ nobodyOf q ⌝ }
 {
     let part = q.part;
-    if q.place == Place::TOP {
-        if notes::place_fits(0, 0, q) {
-            if q.work == 0 {
-                if q.roots == 0 {
-                    if q.sense {
-                        return false;
-                    }
-                    return no_part(part);
-                }
-            }
-        }
+    if q.place != Place::TOP {
+        return false;
     }
-    false
+    if !notes::place_fits(0, 0, q) {
+        return false;
+    }
+    if q.work != 0 {
+        return false;
+    }
+    if q.roots != 0 {
+        return false;
+    }
+    if q.sense {
+        return false;
+    }
+    no_part(part)
 }
 
 // Process p, of the collector and m mutators.

@@ -23,8 +23,8 @@ use Rattle.cells.proofs.Subsets.{sub-of-minus, minus-of-sub}
 use Rattle.cells.proofs.Belows.{below-none, below-of}
 use Rattle.memory.specs.Memories.{maxCells, maxMutators}
 use Rattle.header.specs.Bytes.{byteAt, pairAt}
-use Rattle.header.specs.Header.{maxLog, letterM, letterG, letterT, versionPlace, theVersion, cellsSaid, mutatorsSaid, cellFields, cellPlace, rootsPlace, sizeOf, occupiedAt, fieldAt, rootsRead, usedAmong, lettersOf, countsOf, namesOf, cellFitsOf, cellAtOf, rootsFitOf, rootsAtOf, cellsFitOf, allRootsFitOf, heapFitsOf, admittedOf}
-use Rattle.header.specs.Admitted.{CellSaid, Occupied, Free, saidOf, fieldSaid, rootSet, Admitted}
+use Rattle.header.specs.Header.{maxLog, letterM, letterG, letterT, versionPlace, theVersion, cellsSaid, mutatorsSaid, cellFields, cellPlace, rootsPlace, sizeOf, occupiedAt, fieldAt, rootsRead, usedAmong, lettersOf, countsOf, namesOf, cellSaidFitsOf, cellSaidAtOf, rootsFitOf, rootsAtOf, cellsSaidFitOf, allRootsFitOf, heapFitsOf, admittedOf}
+use Rattle.header.specs.Admitted.{CellSaid, OccupiedSaid, FreeSaid, saidOf, fieldSaid, rootSet, Admitted}
 use Rattle.header.specs.Statements.{TestedExactly}
 use Rattle.header.proofs.Used.{in-used, used-in}
 
@@ -100,9 +100,9 @@ lettered log e v =
 abbrev pub Names : ℕ → ℕ → Type 0
 Names used v = (v ≡ 0) ⊎ Member used v
 
-pub data Fits (used occupied a b : ℕ) : Type 0 where
-  is-free : occupied ≡ 0 → a ≡ 0 → b ≡ 0 → Fits used occupied a b
-  is-occupied : occupied ≡ 1 → Names used a → Names used b → Fits used occupied a b
+pub data CellFits (used occupied a b : ℕ) : Type 0 where
+  is-free : occupied ≡ 0 → a ≡ 0 → b ≡ 0 → CellFits used occupied a b
+  is-occupied : occupied ≡ 1 → Names used a → Names used b → CellFits used occupied a b
 
 parts : (t x y : Bool) → pick t x y ≡ true → ((t ≡ true) × (x ≡ true)) ⊎ ((t ≡ false) × (y ≡ true))
 parts true x y e = inl (refl, e)
@@ -125,22 +125,22 @@ named used v (inr p) = go (eqb v 0)
     go true = refl
     go false = p
 
-fits : (used occupied a b : ℕ) → cellFitsOf used occupied a b ≡ true → Fits used occupied a b
-unfolding cellFitsOf
+fits : (used occupied a b : ℕ) → cellSaidFitsOf used occupied a b ≡ true → CellFits used occupied a b
+unfolding cellSaidFitsOf
 fits used occupied a b e = go (parts (eqb occupied 0) (eqb a 0 and eqb b 0) (pick (eqb occupied 1) (namesOf used a and namesOf used b) false) e)
   where
-    on : ((eqb occupied 1 ≡ true) × (namesOf used a and namesOf used b ≡ true)) ⊎ ((eqb occupied 1 ≡ false) × (false ≡ true)) → Fits used occupied a b
+    on : ((eqb occupied 1 ≡ true) × (namesOf used a and namesOf used b ≡ true)) ⊎ ((eqb occupied 1 ≡ false) × (false ≡ true)) → CellFits used occupied a b
     on (inl p) =
         let q = and-both (namesOf used a) (namesOf used b) (p .1) in
         is-occupied (eqb-true occupied 1 (p .0)) (names used a (q .0)) (names used b (q .1))
     on (inr p) = absurd (not-both (p .1) refl)
 
-    go : ((eqb occupied 0 ≡ true) × (eqb a 0 and eqb b 0 ≡ true)) ⊎ ((eqb occupied 0 ≡ false) × (pick (eqb occupied 1) (namesOf used a and namesOf used b) false ≡ true)) → Fits used occupied a b
+    go : ((eqb occupied 0 ≡ true) × (eqb a 0 and eqb b 0 ≡ true)) ⊎ ((eqb occupied 0 ≡ false) × (pick (eqb occupied 1) (namesOf used a and namesOf used b) false ≡ true)) → CellFits used occupied a b
     go (inl p) = let q = and-both (eqb a 0) (eqb b 0) (p .1) in is-free (eqb-true occupied 0 (p .0)) (eqb-true a 0 (q .0)) (eqb-true b 0 (q .1))
     go (inr p) = on (parts (eqb occupied 1) (namesOf used a and namesOf used b) false (p .1))
 
-fitted : (used occupied a b : ℕ) → Fits used occupied a b → cellFitsOf used occupied a b ≡ true
-unfolding cellFitsOf
+fitted : (used occupied a b : ℕ) → CellFits used occupied a b → cellSaidFitsOf used occupied a b ≡ true
+unfolding cellSaidFitsOf
 fitted used occupied a b (is-free o x y) = rw (eq-eqb occupied 0 o, eq-eqb a 0 x) (eq-eqb b 0 y)
 fitted used occupied a b (is-occupied o x y) =
     let z : eqb occupied 0 ≡ false = ne-eqb occupied 0 (λ e. omega arith) in
@@ -158,44 +158,44 @@ module _ (log : List ℕ) where
   U = usedAmong log (cellsSaid log)
 
   pub record HeapFits : Type 0 where
-    pub cell : (i : ℕ) → i < N → Fits U (occupiedAt log i) (fieldAt log i 0) (fieldAt log i 1)
+    pub cell : (i : ℕ) → i < N → CellFits U (occupiedAt log i) (fieldAt log i 0) (fieldAt log i 1)
     pub below : (k : ℕ) → k < M → belowOf (rootsRead log N k) N ≡ true
     pub roots : (k : ℕ) → k < M → Sub (rootsRead log N k) U
 
   pub heap-fits : heapFitsOf log N M U ≡ true → HeapFits
-  unfolding heapFitsOf cellsFitOf allRootsFitOf rootsFitOf
+  unfolding heapFitsOf cellsSaidFitOf allRootsFitOf rootsFitOf
   heap-fits e =
-      let p = and-both (cellsFitOf log N U) (allRootsFitOf log N M U) e in
+      let p = and-both (cellsSaidFitOf log N U) (allRootsFitOf log N M U) e in
       let r : (k : ℕ) → k < M → (belowOf (rootsRead log N k) N ≡ true) × (isNone (minusOf (rootsRead log N k) U) ≡ true) = λ k h. and-both (belowOf (rootsRead log N k) N) (isNone (minusOf (rootsRead log N k) U)) (every-at (rootsAtOf log N U) M k (p .1) h) in
       record {
-        cell = λ i h. fits U (occupiedAt log i) (fieldAt log i 0) (fieldAt log i 1) (every-at (cellAtOf log U) N i (p .0) h);
+        cell = λ i h. fits U (occupiedAt log i) (fieldAt log i 0) (fieldAt log i 1) (every-at (cellSaidAtOf log U) N i (p .0) h);
         below = λ k h. r k h .0;
         roots = λ k h. sub-of-minus (rootsRead log N k) U (isNone-true (minusOf (rootsRead log N k) U) (r k h .1));
       }
 
   heap-fitted : HeapFits → heapFitsOf log N M U ≡ true
-  unfolding heapFitsOf cellsFitOf allRootsFitOf rootsFitOf
+  unfolding heapFitsOf cellsSaidFitOf allRootsFitOf rootsFitOf
   heap-fitted h =
-      rw (every-all (cellAtOf log U) N (λ i l. fitted U (occupiedAt log i) (fieldAt log i 0) (fieldAt log i 1) (h .cell i l)))
+      rw (every-all (cellSaidAtOf log U) N (λ i l. fitted U (occupiedAt log i) (fieldAt log i 0) (fieldAt log i 1) (h .cell i l)))
       (every-all (rootsAtOf log N U) M (λ k l. rw (h .below k l, minus-of-sub (rootsRead log N k) U (h .roots k l)) isNone-empty))
 
   -- ---- and the clauses
-  abbrev occupied-of : (c : ℕ) → Member U c → Occupied log c
+  abbrev occupied-of : (c : ℕ) → Member U c → OccupiedSaid log c
   occupied-of c p = let a = in-used log N c p in ((a .some, a .within), a .said)
 
-  field-of : HeapFits → (c f : ℕ) → f < cellFields → Occupied log c → Names U (fieldSaid log c f)
+  field-of : HeapFits → (c f : ℕ) → f < cellFields → OccupiedSaid log c → Names U (fieldSaid log c f)
   field-of h c f l o = go f l (h .cell (c - 1) (omega (arith, o .0 .0, o .0 .1)))
     where
-      go : (f : ℕ) → f < cellFields → Fits U (occupiedAt log (c - 1)) (fieldAt log (c - 1) 0) (fieldAt log (c - 1) 1) → Names U (fieldSaid log c f)
+      go : (f : ℕ) → f < cellFields → CellFits U (occupiedAt log (c - 1)) (fieldAt log (c - 1) 0) (fieldAt log (c - 1) 1) → Names U (fieldSaid log c f)
       go f l (is-free z a b) = absurd (omega (arith, o .1, z))
       go zero l (is-occupied z a b) = a
       go (suc zero) l (is-occupied z a b) = b
       go (suc (suc f)) l (is-occupied z a b) = absurd (omega arith)
 
-  free-of : HeapFits → (c f : ℕ) → f < cellFields → Free log c → fieldSaid log c f ≡ 0
+  free-of : HeapFits → (c f : ℕ) → f < cellFields → FreeSaid log c → fieldSaid log c f ≡ 0
   free-of h c f l o = go f l (h .cell (c - 1) (omega (arith, o .0 .0, o .0 .1)))
     where
-      go : (f : ℕ) → f < cellFields → Fits U (occupiedAt log (c - 1)) (fieldAt log (c - 1) 0) (fieldAt log (c - 1) 1) → fieldSaid log c f ≡ 0
+      go : (f : ℕ) → f < cellFields → CellFits U (occupiedAt log (c - 1)) (fieldAt log (c - 1) 0) (fieldAt log (c - 1) 1) → fieldSaid log c f ≡ 0
       go zero l (is-free z a b) = a
       go (suc zero) l (is-free z a b) = b
       go (suc (suc f)) l (is-free z a b) = absurd (omega arith)
@@ -224,11 +224,11 @@ module _ (log : List ℕ) where
         within = λ m i b n. below-none (rootSet log m) N (i + 1) (h .below m b) (omega arith);
       }
     where
-      said-of : {used o a b : ℕ} → Fits used o a b → (o ≡ 0) ⊎ (o ≡ 1)
+      said-of : {used o a b : ℕ} → CellFits used o a b → (o ≡ 0) ⊎ (o ≡ 1)
       said-of (is-free z a b) = inl z
       said-of (is-occupied z a b) = inr z
 
-      names-of : (v : ℕ) → Names U v → (v ≡ 0) ⊎ Occupied log v
+      names-of : (v : ℕ) → Names U v → (v ≡ 0) ⊎ OccupiedSaid log v
       names-of v (inl z) = inl z
       names-of v (inr p) = inr (occupied-of v p)
 
@@ -243,28 +243,28 @@ module _ (log : List ℕ) where
         heap = heap-fitted (record { cell = cell; below = below; roots = λ k l x p. member-of x (a .roots k x l p) });
       })
     where
-      member-of : (x : ℕ) → Occupied log x → Member U x
+      member-of : (x : ℕ) → OccupiedSaid log x → Member U x
       member-of x o = used-in log N x (omega (arith, a .few-cells)) (o .0 .0) (o .0 .1) (o .1)
 
-      names-of : (v : ℕ) → (v ≡ 0) ⊎ Occupied log v → Names U v
+      names-of : (v : ℕ) → (v ≡ 0) ⊎ OccupiedSaid log v → Names U v
       names-of v (inl z) = inl z
       names-of v (inr o) = inr (member-of v o)
 
       below : (k : ℕ) → k < M → belowOf (rootsRead log N k) N ≡ true
       below k l = below-of (rootsRead log N k) N (λ x p. a .roots k x l p .0 .1)
 
-      cell : (i : ℕ) → i < N → Fits U (occupiedAt log i) (fieldAt log i 0) (fieldAt log i 1)
+      cell : (i : ℕ) → i < N → CellFits U (occupiedAt log i) (fieldAt log i 0) (fieldAt log i 1)
       cell i l =
           let e : i + 1 - 1 ≡ i = omega arith in
           let c : CellSaid log (i + 1) = (omega arith, omega arith) in
           go e c (a .said (i + 1) c)
         where
-          go : i + 1 - 1 ≡ i → CellSaid log (i + 1) → (saidOf log (i + 1) ≡ 0) ⊎ (saidOf log (i + 1) ≡ 1) → Fits U (occupiedAt log i) (fieldAt log i 0) (fieldAt log i 1)
+          go : i + 1 - 1 ≡ i → CellSaid log (i + 1) → (saidOf log (i + 1) ≡ 0) ⊎ (saidOf log (i + 1) ≡ 1) → CellFits U (occupiedAt log i) (fieldAt log i 0) (fieldAt log i 1)
           go e c (inl z) =
-              let q : Fits U (saidOf log (i + 1)) (fieldSaid log (i + 1) 0) (fieldSaid log (i + 1) 1) = is-free z (a .free (i + 1) 0 (omega arith) (c, z)) (a .free (i + 1) 1 (omega arith) (c, z)) in
+              let q : CellFits U (saidOf log (i + 1)) (fieldSaid log (i + 1) 0) (fieldSaid log (i + 1) 1) = is-free z (a .free (i + 1) 0 (omega arith) (c, z)) (a .free (i + 1) 1 (omega arith) (c, z)) in
               rw e at q
           go e c (inr z) =
-              let q : Fits U (saidOf log (i + 1)) (fieldSaid log (i + 1) 0) (fieldSaid log (i + 1) 1) = is-occupied z (names-of (fieldSaid log (i + 1) 0) (a .fields (i + 1) 0 (omega arith) (c, z))) (names-of (fieldSaid log (i + 1) 1) (a .fields (i + 1) 1 (omega arith) (c, z))) in
+              let q : CellFits U (saidOf log (i + 1)) (fieldSaid log (i + 1) 0) (fieldSaid log (i + 1) 1) = is-occupied z (names-of (fieldSaid log (i + 1) 0) (a .fields (i + 1) 0 (omega arith) (c, z))) (names-of (fieldSaid log (i + 1) 1) (a .fields (i + 1) 1 (omega arith) (c, z))) in
               rw e at q
 
 pub tested-exactly : TestedExactly

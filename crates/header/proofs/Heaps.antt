@@ -22,7 +22,7 @@ use Rattle.header.specs.Header.{cellsSaid, mutatorsSaid, cellFields, occ
 use Rattle.header.specs.Admitted.{Admitted, Sound}
 use Rattle.header.specs.Statements.{OpenedWhere, RefusedElse, OpenedOnly, Said, HeapSaid, HeapSound}
 use Rattle.header.proofs.Used.{in-used, used-in, used-below}
-use Rattle.header.proofs.Agrees.{Names, Fits, is-free, is-occupied, HeapFits, heap-fits, tests, admitted-clauses, clauses-admitted}
+use Rattle.header.proofs.Agrees.{Names, CellFits, is-free, is-occupied, HeapFits, heap-fits, tests, admitted-clauses, clauses-admitted}
 use Rattle.header.proofs.Opens.{open-admitted, open-refused, open-yes}
 
 pub opened-where : OpenedWhere
@@ -93,7 +93,7 @@ module _ (log : List ℕ) (a : Admitted log) where
   names-in f i b (no n) = inl (field-out f i (omega arith))
   names-in f i b (yes l) = rw (field-in f i l) (go f b (h .cell i l))
     where
-      go : (f : ℕ) → f < cellFields → Fits U (occupiedAt log i) (fieldAt log i 0) (fieldAt log i 1) → Names U (fieldAt log i f)
+      go : (f : ℕ) → f < cellFields → CellFits U (occupiedAt log i) (fieldAt log i 0) (fieldAt log i 1) → Names U (fieldAt log i f)
       go zero b (is-free z x y) = inl x
       go (suc zero) b (is-free z x y) = inl y
       go (suc (suc f)) b (is-free z x y) = absurd (omega arith)
@@ -105,7 +105,7 @@ module _ (log : List ℕ) (a : Admitted log) where
   free-in f i b m (no n) = field-out f i (omega arith)
   free-in f i b m (yes l) = field-in f i l ∙ go f b (h .cell i l)
     where
-      go : (f : ℕ) → f < cellFields → Fits U (occupiedAt log i) (fieldAt log i 0) (fieldAt log i 1) → fieldAt log i f ≡ 0
+      go : (f : ℕ) → f < cellFields → CellFits U (occupiedAt log i) (fieldAt log i 0) (fieldAt log i 1) → fieldAt log i f ≡ 0
       go zero b (is-free z x y) = x
       go (suc zero) b (is-free z x y) = y
       go (suc (suc f)) b (is-free z x y) = absurd (omega arith)

@@ -16,7 +16,7 @@ use Rattle.base.specs.Pick.{pick, listed}
 use Rattle.base.specs.Every.{_and_, every}
 use Rattle.memory.specs.Memories.{maxCells, maxMutators}
 use Rattle.header.specs.Bytes.{perByte, byteAt, pairAt, wordAt}
-use Rattle.header.specs.Header.{maxLog, versionPlace, cellsPlace, mutatorsPlace, heapPlace, cellsSaid, mutatorsSaid, cellFields, cellPlace, rootsPlace, sizeOf, occupiedAt, fieldAt, rootsRead, gainedOf, usedAmong, lettersOf, cellAtOf, rootsFitOf, rootsAtOf, cellsFitOf, allRootsFitOf, heapFitsOf, fieldIn, fieldsOf, rootsIn, rootsOf, readHeap, heapOf}
+use Rattle.header.specs.Header.{maxLog, versionPlace, cellsPlace, mutatorsPlace, heapPlace, cellsSaid, mutatorsSaid, cellFields, cellPlace, rootsPlace, sizeOf, occupiedAt, fieldAt, rootsRead, gainedOf, usedAmong, lettersOf, cellSaidAtOf, rootsFitOf, rootsAtOf, cellsSaidFitOf, allRootsFitOf, heapFitsOf, fieldIn, fieldsOf, rootsIn, rootsOf, readHeap, heapOf}
 use Rattle.header.specs.Admitted.{Admitted}
 use Rattle.header.specs.Statements.{SameHeader, HeaderDecides, CutInside}
 use Rattle.header.proofs.Agrees.{tests, tested, admitted-clauses, clauses-admitted}
@@ -90,10 +90,10 @@ module _ (log other : List ℕ) (s : SameHeader log other) where
   used (suc i) h = ap₂ (λ (u o : ℕ). gainedOf u o (i + 1)) (used i (omega arith)) (occupied i (omega arith))
 
   heap-fits : (u : ℕ) → heapFitsOf other N M u ≡ heapFitsOf log N M u
-  unfolding heapFitsOf cellsFitOf allRootsFitOf
+  unfolding heapFitsOf cellsSaidFitOf allRootsFitOf
   heap-fits u =
       ap₂ _and_
-      (every-same (cellAtOf other u) (cellAtOf log u) N (λ i h. rw (occupied i h, field i 0 h (omega arith), field i 1 h (omega arith)) refl))
+      (every-same (cellSaidAtOf other u) (cellSaidAtOf log u) N (λ i h. rw (occupied i h, field i 0 h (omega arith), field i 1 h (omega arith)) refl))
       (every-same (rootsAtOf other N u) (rootsAtOf log N u) M (λ k h. ap (rootsFitOf N u) (roots k h)))
 
   letters : lettersOf other ≡ lettersOf log

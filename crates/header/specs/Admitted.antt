@@ -25,11 +25,11 @@ saidOf log c = occupiedAt log (c - 1)
 abbrev pub fieldSaid : List ℕ → ℕ → ℕ → ℕ
 fieldSaid log c f = fieldAt log (c - 1) f
 
-abbrev pub Occupied : List ℕ → ℕ → Type 0
-Occupied log c = CellSaid log c × (saidOf log c ≡ 1)
+abbrev pub OccupiedSaid : List ℕ → ℕ → Type 0
+OccupiedSaid log c = CellSaid log c × (saidOf log c ≡ 1)
 
-abbrev pub Free : List ℕ → ℕ → Type 0
-Free log c = CellSaid log c × (saidOf log c ≡ 0)
+abbrev pub FreeSaid : List ℕ → ℕ → Type 0
+FreeSaid log c = CellSaid log c × (saidOf log c ≡ 0)
 
 -- "per mutator a 32-bit root set, bit 0 for cell 1"
 abbrev pub rootSet : List ℕ → ℕ → ℕ
@@ -53,11 +53,11 @@ pub record Admitted (log : List ℕ) : Type 0 where
   -- "occupied (0 or 1)"
   pub said : (c : ℕ) → CellSaid log c → (saidOf log c ≡ 0) ⊎ (saidOf log c ≡ 1)
   -- "A field of an occupied cell is 0 or names an occupied cell"
-  pub fields : (c f : ℕ) → f < cellFields → Occupied log c → (fieldSaid log c f ≡ 0) ⊎ Occupied log (fieldSaid log c f)
+  pub fields : (c f : ℕ) → f < cellFields → OccupiedSaid log c → (fieldSaid log c f ≡ 0) ⊎ OccupiedSaid log (fieldSaid log c f)
   -- "roots name occupied cells"
-  pub roots : (k x : ℕ) → k < mutatorsSaid log → Member (rootSet log k) x → Occupied log x
+  pub roots : (k x : ℕ) → k < mutatorsSaid log → Member (rootSet log k) x → OccupiedSaid log x
   -- "a free cell's fields are 0"
-  pub free : (c f : ℕ) → f < cellFields → Free log c → fieldSaid log c f ≡ 0
+  pub free : (c f : ℕ) → f < cellFields → FreeSaid log c → fieldSaid log c f ≡ 0
   -- "no bit at or above N": bit i is for cell i + 1
   pub within : (k i : ℕ) → k < mutatorsSaid log → cellsSaid log ≤ i → memberOf (rootSet log k) (i + 1) ≡ false
 

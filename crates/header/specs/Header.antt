@@ -105,13 +105,13 @@ unfoldable pub namesOf : ℕ → ℕ → Bool
 namesOf used v = pick (eqb v 0) true (memberOf used v)
 
 -- "occupied (0 or 1)"; "A field of an occupied cell is 0 or names an occupied cell"; "a free cell's fields are 0"
-unfoldable pub cellFitsOf : ℕ → ℕ → ℕ → ℕ → Bool
-cellFitsOf used occupied a b =
+unfoldable pub cellSaidFitsOf : ℕ → ℕ → ℕ → ℕ → Bool
+cellSaidFitsOf used occupied a b =
     pick (eqb occupied 0) (eqb a 0 and eqb b 0)
     (pick (eqb occupied 1) (namesOf used a and namesOf used b) false)
 
-abbrev pub cellAtOf : List ℕ → ℕ → ℕ → Bool
-cellAtOf log used i = cellFitsOf used (occupiedAt log i) (fieldAt log i 0) (fieldAt log i 1)
+abbrev pub cellSaidAtOf : List ℕ → ℕ → ℕ → Bool
+cellSaidAtOf log used i = cellSaidFitsOf used (occupiedAt log i) (fieldAt log i 0) (fieldAt log i 1)
 
 -- "no bit at or above N"; "roots name occupied cells"
 unfoldable pub rootsFitOf : ℕ → ℕ → ℕ → Bool
@@ -121,14 +121,14 @@ abbrev pub rootsAtOf : List ℕ → ℕ → ℕ → ℕ → Bool
 rootsAtOf log n used k = rootsFitOf n used (rootsRead log n k)
 
 -- every cell, every root set
-unfoldable pub cellsFitOf : List ℕ → ℕ → ℕ → Bool
-cellsFitOf log n used = every n (cellAtOf log used)
+unfoldable pub cellsSaidFitOf : List ℕ → ℕ → ℕ → Bool
+cellsSaidFitOf log n used = every n (cellSaidAtOf log used)
 
 unfoldable pub allRootsFitOf : List ℕ → ℕ → ℕ → ℕ → Bool
 allRootsFitOf log n m used = every m (rootsAtOf log n used)
 
 unfoldable pub heapFitsOf : List ℕ → ℕ → ℕ → ℕ → Bool
-heapFitsOf log n m used = cellsFitOf log n used and allRootsFitOf log n m used
+heapFitsOf log n m used = cellsSaidFitOf log n used and allRootsFitOf log n m used
 
 -- "Otherwise, or if short: stop 12."
 unfoldable pub admittedOf : List ℕ → Bool

@@ -9,7 +9,7 @@ use Rattle.cells.specs.Sets.{Member}
 use Rattle.state.specs.declared.opening.Heap.{Heap}
 use Rattle.header.specs.Bytes.{byteAt}
 use Rattle.header.specs.Header.{maxLog, cellsSaid, mutatorsSaid, sizeOf, admittedOf, heapOf, opened, unopened, openOf}
-use Rattle.header.specs.Admitted.{CellSaid, Occupied, fieldSaid, rootSet, Admitted, Sound}
+use Rattle.header.specs.Admitted.{CellSaid, OccupiedSaid, fieldSaid, rootSet, Admitted, Sound}
 
 -- the tests hold exactly if every clause does
 abbrev pub TestedExactly : Type 0
@@ -29,7 +29,7 @@ OpenedOnly = (log : List ℕ) → openOf log .no ≡ 0 → Admitted log
 pub record Said (log : List ℕ) (h : Heap) : Type 0 where
   pub cells : h .cells ≡ cellsSaid log
   pub processes : h .processes ≡ mutatorsSaid log + 1
-  pub used : (c : ℕ) → Member (h .used) c ↔ Occupied log c
+  pub used : (c : ℕ) → Member (h .used) c ↔ OccupiedSaid log c
   pub field0 : (c : ℕ) → CellSaid log c → getD (h .field0) (c - 1) 0 ≡ fieldSaid log c 0
   pub field1 : (c : ℕ) → CellSaid log c → getD (h .field1) (c - 1) 0 ≡ fieldSaid log c 1
   pub roots : (k : ℕ) → k < mutatorsSaid log → getD (h .roots) k 0 ≡ rootSet log k

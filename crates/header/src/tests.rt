@@ -7,7 +7,7 @@ use super::heap;
 use memory::Memory;
 use state::State;
 ghost use mathlib.Core.Path.{_≡_};
-ghost use Rattle.header.specs.Header.{lettersOf, countsOf, namesOf, cellFitsOf, cellAtOf, rootsFitOf, cellsFitOf, allRootsFitOf, heapFitsOf, admittedOf};
+ghost use Rattle.header.specs.Header.{lettersOf, countsOf, namesOf, cellSaidFitsOf, cellSaidAtOf, rootsFitOf, cellsSaidFitOf, allRootsFitOf, heapFitsOf, admittedOf};
 
 // "Bytes 4D 47 54 ("MGT"), a 16-bit version 1"
 fn letters(log: &[u8]) -> bool
@@ -53,7 +53,7 @@ fn names(used: u64, v: u8) -> bool
 
 // "occupied (0 or 1)"; "A field of an occupied cell is 0 or names an occupied cell"; "a free cell's fields are 0"
 fn cell_fits(used: u64, occupied: u8, a: u8, b: u8) -> bool
-    ensures { λ r. ⌜ r ≡ cellFitsOf used occupied a b ⌝ }
+    ensures { λ r. ⌜ r ≡ cellSaidFitsOf used occupied a b ⌝ }
 {
     if occupied == 0 {
         if a != 0 {
@@ -72,7 +72,7 @@ fn cell_fits(used: u64, occupied: u8, a: u8, b: u8) -> bool
 
 // The cell i + 1 of the log.
 fn cell_at(log: &[u8], used: u64, i: u8) -> bool
-    ensures { λ r. ⌜ r ≡ cellAtOf (now (log .entry)) used i ⌝ }
+    ensures { λ r. ⌜ r ≡ cellSaidAtOf (now (log .entry)) used i ⌝ }
 {
     let occupied = heap::occupied(log, i);
     let a = heap::field(log, i, 0);
@@ -82,7 +82,7 @@ fn cell_at(log: &[u8], used: u64, i: u8) -> bool
 
 // Every cell.
 fn cells_fit(log: &[u8], n: u8, used: u64) -> bool
-    ensures { λ r. ⌜ r ≡ cellsFitOf (now (log .entry)) n used ⌝ }
+    ensures { λ r. ⌜ r ≡ cellsSaidFitOf (now (log .entry)) n used ⌝ }
 {
     let mut i: u8 = 0;
     while i < n {

@@ -4,7 +4,7 @@
 --     one, two, three   One, Two, Three hold of a number picked by tests
 use mathlib.Core.Path.{_≡_, refl, sym, _∙_}
 use mathlib.Core.Bool.{Bool, true, false, false≢true}
-use mathlib.Core.Logic.{_↔_, _⊎_, inl, inr, ⊎-elim, Iff·rfl}
+use mathlib.Core.Logic.{_↔_, inl, inr, ⊎-elim, Iff·rfl}
 use Prim.Native.Nat.{ℕ}
 use Rattle.base.specs.Pick.{pick}
 pub use Rattle.memory.specs.Numbers.{One, Two, Three}

@@ -125,6 +125,7 @@ impl Memory {
             Change::Free(x) => self.free(p, x),
         }
     }
+
     // Memory after process p's ask: an ask that changes nothing leaves it as it is.
     pub fn made(self, p: u8, ask: Ask) -> Done
         ensures { λ r. ⌜ r ≡ madeOf self p ask ⌝ }

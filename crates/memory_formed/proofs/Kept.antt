@@ -34,11 +34,11 @@ use Rattle.memory.specs.Memories.{maxCells, maxProcesses, atCell, putCell, used
 use Rattle.memory.specs.Steps.{writeOf, commitOf, fenceOf, lockOf, unlockOf, allocateOf, freeOf}
 use Rattle.memory.proofs.Spots.{cell-other, there-used}
 use Rattle.memory.proofs.Keeps.{put-length}
-use Rattle.memory_formed.specs.WellFormed.{WellFormed}
+use Rattle.memory_formed.specs.WellFormed.{MemoryFormed}
 
 -- an answer hands back a memory that is well formed
 abbrev Kept : Done → Type 0
-Kept d = WellFormed (d .memory)
+Kept d = MemoryFormed (d .memory)
 
 -- ---- arrays by cell
 module _ {A : Type 0} where
@@ -58,13 +58,13 @@ module _ {A : Type 0} where
       go (a ∷ l) (suc i) = go l i
 
 -- ---- other cells: what the facts ask of the set and of the arrays
-module _ (m : Memory) (w : WellFormed m) where
+module _ (m : Memory) (w : MemoryFormed m) where
   heap-kept : (s : ℕ) (bs : List Bool) (vs us : List ℕ) → length bs ≡ maxCells → length vs ≡ maxCells → length us ≡ maxCells →
       ((c : ℕ) → memberOf s c ≡ true → IsCell (m .cells) c) →
       ((c : ℕ) → memberOf s c ≡ false → atCell bs c false ≡ false) →
       ((c : ℕ) → memberOf s c ≡ false → atCell vs c 0 ≡ 0) →
       ((c : ℕ) → memberOf s c ≡ false → atCell us c 0 ≡ 0) →
-      WellFormed (withField1 (withField0 (withMarks (withUsed m s) bs) vs) us)
+      MemoryFormed (withField1 (withField0 (withMarks (withUsed m s) bs) vs) us)
   heap-kept s bs vs us a b d inside marked zero0 zero1 =
       record {
         marks-sized = a;
@@ -88,7 +88,7 @@ module _ (m : Memory) (w : WellFormed m) where
       ((p : ℕ) → k ≡ p + 1 → p < m .processes) →
       ((p : ℕ) → p < m .processes → BufferFits (m .cells) (getD bs p noBuffer)) →
       ((p : ℕ) → m .processes ≤ p → p < maxProcesses → getD bs p noBuffer ≡ emptyBuffer) →
-      WellFormed
+      MemoryFormed
       (record { cells = m .cells; processes = m .processes; used = m .used; marks = m .marks; field0 = m .field0; field1 = m .field1; fm = a; fa = b; phase = t; lock = k; buffers = bs })
   rest-kept a b t k bs e holds fit none =
       record {
@@ -108,7 +108,7 @@ module _ (m : Memory) (w : WellFormed m) where
         no-process = none;
       }
 
-  buffer-kept : (p : ℕ) (b : Buffer) → p < m .processes → BufferFits (m .cells) b → WellFormed (withBuffer m p b)
+  buffer-kept : (p : ℕ) (b : Buffer) → p < m .processes → BufferFits (m .cells) b → MemoryFormed (withBuffer m p b)
   buffer-kept p b mine f =
       rest-kept (m .fm) (m .fa) (m .phase) (m .lock) (set (m .buffers) p b) (length-set (m .buffers) p b ∙ w .buffers-sized) (w .holder)
       (λ q h. fit q h (ℕ-discrete q p))
@@ -122,28 +122,28 @@ module _ (m : Memory) (w : WellFormed m) where
   apart : (c x : ℕ) → usedOf m c ≡ true → usedOf m x ≡ false → x ≢ c
   apart c x u n e = not-both u (rw e at n)
 
-  mark-kept : (c : ℕ) (b : Bool) → usedOf m c ≡ true → WellFormed (withMarks m (putCell (m .marks) c b))
+  mark-kept : (c : ℕ) (b : Bool) → usedOf m c ≡ true → MemoryFormed (withMarks m (putCell (m .marks) c b))
   mark-kept c b u =
       heap-kept (m .used) (putCell (m .marks) c b) (m .field0) (m .field1) (put-length (m .marks) c b ∙ w .marks-sized) (w .field0-sized) (w .field1-sized) (w .used-cells)
       (λ x n. cell-other (m .marks) false b c x (apart c x u n) ∙ w .free-mark x n)
       (λ x n. w .free-field x 0 n)
       (λ x n. w .free-field x 1 n)
 
-  field0-kept : (c v : ℕ) → usedOf m c ≡ true → WellFormed (withField0 m (putCell (m .field0) c v))
+  field0-kept : (c v : ℕ) → usedOf m c ≡ true → MemoryFormed (withField0 m (putCell (m .field0) c v))
   field0-kept c v u =
       heap-kept (m .used) (m .marks) (putCell (m .field0) c v) (m .field1) (w .marks-sized) (put-length (m .field0) c v ∙ w .field0-sized) (w .field1-sized) (w .used-cells)
       (w .free-mark)
       (λ x n. cell-other (m .field0) 0 v c x (apart c x u n) ∙ w .free-field x 0 n)
       (λ x n. w .free-field x 1 n)
 
-  field1-kept : (c v : ℕ) → usedOf m c ≡ true → WellFormed (withField1 m (putCell (m .field1) c v))
+  field1-kept : (c v : ℕ) → usedOf m c ≡ true → MemoryFormed (withField1 m (putCell (m .field1) c v))
   field1-kept c v u =
       heap-kept (m .used) (m .marks) (m .field0) (putCell (m .field1) c v) (w .marks-sized) (w .field0-sized) (put-length (m .field1) c v ∙ w .field1-sized) (w .used-cells)
       (w .free-mark)
       (λ x n. w .free-field x 0 n)
       (λ x n. cell-other (m .field1) 0 v c x (apart c x u n) ∙ w .free-field x 1 n)
 
-  applied-kept : (s : Store) → thereOf m (spotOf s) ≡ true → WellFormed (appliedOf m s)
+  applied-kept : (s : Store) → thereOf m (spotOf s) ≡ true → MemoryFormed (appliedOf m s)
   unfolding thereOf appliedOf
   applied-kept (store.Mark c b) u = mark-kept c b u
   applied-kept (store.Field c f v) u = ⊎-elim (λ e. rw e (field0-kept c v u)) (λ e. rw e (field1-kept c v u)) (split (eqb f 0))
@@ -151,7 +151,7 @@ module _ (m : Memory) (w : WellFormed m) where
   applied-kept (store.AllocSense b) u = rest-kept (m .fm) b (m .phase) (m .lock) (m .buffers) (w .buffers-sized) (w .holder) (w .buffers) (w .no-process)
   applied-kept (store.Phase p) u = rest-kept (m .fm) (m .fa) (record { phase = p }) (m .lock) (m .buffers) (w .buffers-sized) (w .holder) (w .buffers) (w .no-process)
 
-  allocated-kept : (c : ℕ) → IsCell (m .cells) c → WellFormed (allocatedOf m c)
+  allocated-kept : (c : ℕ) → IsCell (m .cells) c → MemoryFormed (allocatedOf m c)
   allocated-kept c h =
       heap-kept (addOf (m .used) c) (putCell (m .marks) c (m .fa)) (putCell (m .field0) c 0) (putCell (m .field1) c 0)
       (put-length (m .marks) c (m .fa) ∙ w .marks-sized) (put-length (m .field0) c 0 ∙ w .field0-sized) (put-length (m .field1) c 0 ∙ w .field1-sized)
@@ -171,7 +171,7 @@ module _ (m : Memory) (w : WellFormed m) where
       before x n (inl u) = absurd (not-both (add-keeps (m .used) c x u) n)
       before x n (inr u) = u
 
-  freed-kept : (c : ℕ) → WellFormed (freedOf m c)
+  freed-kept : (c : ℕ) → MemoryFormed (freedOf m c)
   freed-kept c =
       heap-kept (removeOf (m .used) c) (putCell (m .marks) c false) (putCell (m .field0) c 0) (putCell (m .field1) c 0)
       (put-length (m .marks) c false ∙ w .marks-sized) (put-length (m .field0) c 0 ∙ w .field0-sized) (put-length (m .field1) c 0 ∙ w .field1-sized)
@@ -189,8 +189,8 @@ module _ (m : Memory) (w : WellFormed m) where
       zero-at {x = x} l d z n (no e) = cell-other l d d c x e ∙ z (before x n e (split (usedOf m x)))
 
 -- ---- the steps
-module _ (m : Memory) (p : ℕ) (w : WellFormed m) (mine : p < m .processes) where
-  pub write-kept : (e : Entry) → StoreFits (m .cells) (e .store) → WellFormed (writeOf m p e .memory)
+module _ (m : Memory) (p : ℕ) (w : MemoryFormed m) (mine : p < m .processes) where
+  pub write-kept : (e : Entry) → StoreFits (m .cells) (e .store) → MemoryFormed (writeOf m p e .memory)
   unfolding writeOf
   write-kept e f =
       pick-ind Kept (leb maxProcesses p) (λ _. w)
@@ -198,7 +198,7 @@ module _ (m : Memory) (p : ℕ) (w : WellFormed m) (mine : p < m .processes) whe
       (λ _. buffer-kept m w p (pushOf (bufferOf m p) e .buffer) mine (push-kept (m .cells) (bufferOf m p) e (w .buffers p mine) f))
       (λ _. w))
 
-  pub commit-kept : WellFormed (commitOf m p .memory)
+  pub commit-kept : MemoryFormed (commitOf m p .memory)
   unfolding commitOf
   commit-kept =
       let b = popOf (bufferOf m p) in
@@ -209,28 +209,28 @@ module _ (m : Memory) (p : ℕ) (w : WellFormed m) (mine : p < m .processes) whe
       (λ u. applied-kept (withBuffer m p (b .buffer)) (buffer-kept m w p (b .buffer) mine (pop-kept (m .cells) (bufferOf m p) (w .buffers p mine))) s (there-used m (withBuffer m p (b .buffer)) (spotOf s) refl ∙ u))
       (λ _. w)))
 
-  pub fence-kept : WellFormed (fenceOf m p .memory)
+  pub fence-kept : MemoryFormed (fenceOf m p .memory)
   unfolding fenceOf
   fence-kept = picked Kept (eqb (pendingLenOf m p) 0) w w
 
-  pub lock-kept : WellFormed (lockOf m p .memory)
+  pub lock-kept : MemoryFormed (lockOf m p .memory)
   unfolding lockOf
   lock-kept =
       pick-ind Kept (eqb (m .lock) 0)
       (λ _. rest-kept m w (m .fm) (m .fa) (m .phase) (p + 1) (m .buffers) (w .buffers-sized) (λ q e. omega arith) (w .buffers) (w .no-process))
       (λ _. w)
 
-  pub unlock-kept : WellFormed (unlockOf m p .memory)
+  pub unlock-kept : MemoryFormed (unlockOf m p .memory)
   unfolding unlockOf
   unlock-kept =
       pick-ind Kept (eqb (pendingLenOf m p) 0)
       (λ _. rest-kept m w (m .fm) (m .fa) (m .phase) 0 (m .buffers) (w .buffers-sized) (λ q e. omega arith) (w .buffers) (w .no-process))
       (λ _. w)
 
-  pub allocate-kept : (c : ℕ) → IsCell (m .cells) c → WellFormed (allocateOf m p c .memory)
+  pub allocate-kept : (c : ℕ) → IsCell (m .cells) c → MemoryFormed (allocateOf m p c .memory)
   unfolding allocateOf
   allocate-kept c h = pick-ind Kept (blockedOf m p) (λ _. w) (λ _. pick-ind Kept (usedOf m c) (λ _. w) (λ _. allocated-kept m w c h))
 
-  pub free-kept : (c : ℕ) → WellFormed (freeOf m p c .memory)
+  pub free-kept : (c : ℕ) → MemoryFormed (freeOf m p c .memory)
   unfolding freeOf
   free-kept c = pick-ind Kept (blockedOf m p) (λ _. w) (λ _. freed-kept m w c)

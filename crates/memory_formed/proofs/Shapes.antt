@@ -5,7 +5,7 @@
 --                                          if it holds of an unused one
 --     plain, pending-plain     a store that fits has a plain spot, and so has every pending one
 use mathlib.Core.Path.{_≡_, refl}
-use mathlib.Core.Logic.{_⊎_, ⊎-elim, by-cases}
+use mathlib.Core.Logic.{⊎-elim, by-cases}
 use mathlib.Core.List.{List, [], _∷_, List·Memᴰ, List·Memᴰ·head, List·Memᴰ·tail, List·Memᴰ·not-nil, List·Memᴰ·cases-cons}
 use Prim.Native.Nat.{ℕ, zero, suc, _<_}
 use native.Mathlib.Omega.{arith}
@@ -23,9 +23,9 @@ use Rattle.memory.specs.Memories.{maxProcesses, bufferOf}
 use Rattle.memory.specs.Views.{pendingFor}
 use Rattle.memory.proofs.Shapes.{Shaped, pending-is, pending-absent, buffer-absent, there-or-not}
 use Rattle.memory.proofs.Spots.{Plain}
-use Rattle.memory_formed.specs.WellFormed.{WellFormed}
+use Rattle.memory_formed.specs.WellFormed.{MemoryFormed}
 
-pub shaped : (m : Memory) → WellFormed m → Shaped m
+pub shaped : (m : Memory) → MemoryFormed m → Shaped m
 shaped m w =
     record {
       marks = w .marks-sized;
@@ -54,7 +54,7 @@ pub pending-entries : (P : Entry → Type 0) (m : Memory) (p : ℕ) → ((i : �
 pending-entries P m p f e i = every-taken P (bufferOf m p .len) (bufferOf m p .entries) (λ k _. f k) e (rw (pending-is m p) at i)
 
 -- "Unused: .. processes above M, entries past a buffer's length"
-pub entries-pending : (P : Entry → Type 0) (m : Memory) → WellFormed m → (p : ℕ) → P noEntry → ((e : Entry) → List·Memᴰ e (pendingFor m p) → P e) → (i : ℕ) → P (entryOf (bufferOf m p) i)
+pub entries-pending : (P : Entry → Type 0) (m : Memory) → MemoryFormed m → (p : ℕ) → P noEntry → ((e : Entry) → List·Memᴰ e (pendingFor m p) → P e) → (i : ℕ) → P (entryOf (bufferOf m p) i)
 entries-pending P m w p unused each i = by-cases (decLt p (m .processes)) here (λ n. rw (none n) unused)
   where
     here : p < m .processes → P (entryOf (bufferOf m p) i)
@@ -67,7 +67,7 @@ entries-pending P m w p unused each i = by-cases (decLt p (m .processes)) here (
     none : (p < m .processes → ⊥) → entryOf (bufferOf m p) i ≡ noEntry
     none n = ⊎-elim (λ l. rw (w .no-process p (omega arith) l) (empty-fits (m .cells) .unused i (omega arith))) (λ l. rw (buffer-absent m (shaped m w) p l) refl) (there-or-not p)
 
-pub pending-stores : (m : Memory) → WellFormed m → (p : ℕ) (e : Entry) → List·Memᴰ e (pendingFor m p) → StoreFits (m .cells) (e .store)
+pub pending-stores : (m : Memory) → MemoryFormed m → (p : ℕ) (e : Entry) → List·Memᴰ e (pendingFor m p) → StoreFits (m .cells) (e .store)
 pending-stores m w p e i = by-cases (decLt p (m .processes)) here (λ n. absurd (List·Memᴰ·not-nil (rw (none n) at i)))
   where
     here : p < m .processes → StoreFits (m .cells) (e .store)
@@ -83,5 +83,5 @@ plain n (store.Sense b) f = omega arith
 plain n (store.AllocSense b) f = omega arith
 plain n (store.Phase x) f = omega arith
 
-pub pending-plain : (m : Memory) → WellFormed m → (p : ℕ) (e : Entry) → List·Memᴰ e (pendingFor m p) → Plain (spotOf (e .store))
+pub pending-plain : (m : Memory) → MemoryFormed m → (p : ℕ) (e : Entry) → List·Memᴰ e (pendingFor m p) → Plain (spotOf (e .store))
 pending-plain m w p e i = plain (m .cells) (e .store) (pending-stores m w p e i)

@@ -1,5 +1,5 @@
 -- Well-formed memory: the test and the facts agree. Assumes nothing.
---     well-formed      `wellFormedOf` holds exactly if `WellFormed` does
+--     well-formed      `memoryFormedOf` holds exactly if `MemoryFormed` does
 use mathlib.Core.Path.{_≡_, refl}
 use mathlib.Core.Bool.{true, false}
 use mathlib.Core.List.{List}
@@ -23,7 +23,7 @@ use Rattle.buffers.specs.Fits.{BufferFits, bufferFitsOf}
 use Rattle.buffers.proofs.Wells as buffer
 use Rattle.memory.specs.declared.Memory.{Memory}
 use Rattle.memory.specs.Memories.{maxCells, maxProcesses, atCell, usedOf, markOf, fieldOf, bufferOf}
-use Rattle.memory_formed.specs.WellFormed.{minCells, minProcesses, WellFormed, countsFitOf, cellFitsOf, cellAtOf, cellsFitOf, heldFitsOf, bufferAtOf, buffersFitOf, fitsOf, sizedOf, wellFormedOf}
+use Rattle.memory_formed.specs.WellFormed.{minCells, minProcesses, MemoryFormed, countsFitOf, cellFitsOf, cellAtOf, cellsFitOf, heldFitsOf, bufferAtOf, buffersFitOf, fitsOf, sizedOf, memoryFormedOf}
 
 record Sized (m : Memory) : Type 0 where
   marks : length (m .marks) ≡ maxCells
@@ -103,8 +103,8 @@ module _ (m : Memory) (fit : buffersFitOf m ≡ true) where
       buffer.none-pending (m .cells) (bufferOf m p) (x .0) (eqb-true _ _ e)
 
 -- ---- the whole
-told : (m : Memory) → wellFormedOf m ≡ true → WellFormed m
-unfolding wellFormedOf fitsOf
+told : (m : Memory) → memoryFormedOf m ≡ true → MemoryFormed m
+unfolding memoryFormedOf fitsOf
 told m e =
     let a = and-both (sizedOf m) (fitsOf m) e in
     let b = and-both (countsFitOf m) _ (a .1) in
@@ -131,7 +131,7 @@ told m e =
       no-process = none m (g .1);
     }
 
-module _ (m : Memory) (w : WellFormed m) where
+module _ (m : Memory) (w : MemoryFormed m) where
   sized-test : sizedOf m ≡ true
   unfolding sizedOf
   sized-test = rw (eq-eqb _ _ (w .marks-sized), eq-eqb _ _ (w .field0-sized), eq-eqb _ _ (w .field1-sized), eq-eqb _ _ (w .buffers-sized)) refl
@@ -165,11 +165,11 @@ module _ (m : Memory) (w : WellFormed m) where
           let k : m .processes ≤ p = omega arith in
           rw (w .no-process p k l, buffer.well-formed (m .cells) emptyBuffer .1 (buffer.empty-fits (m .cells)), le-ltb p (m .processes) k) refl
 
-  test : wellFormedOf m ≡ true
-  unfolding wellFormedOf fitsOf cellsFitOf buffersFitOf
+  test : memoryFormedOf m ≡ true
+  unfolding memoryFormedOf fitsOf cellsFitOf buffersFitOf
   test =
       rw (sized-test, counts-test, below-of (m .used) (m .cells) (λ c u. w .used-cells c u .1), lock-test, every-all (cellAtOf m) maxCells (λ i l. cell-test (i + 1)))
       (every-all (bufferAtOf m) maxProcesses buffer-test)
 
-pub well-formed : (m : Memory) → (wellFormedOf m ≡ true) ↔ WellFormed m
+pub well-formed : (m : Memory) → (memoryFormedOf m ≡ true) ↔ MemoryFormed m
 well-formed m = (told m, test m)

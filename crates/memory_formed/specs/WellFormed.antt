@@ -1,7 +1,7 @@
 -- Refusal 1, as far as memory goes: "the state is malformed: a count, cell, process, set, .. or buffer length out of
 -- range, or something unused not zero. Unused: a free cell's mark and fields, cells above N, processes above M,
 -- entries past a buffer's length". Assumes nothing.
--- `WellFormed` says it as facts, `wellFormedOf` as the test that the code makes; proofs/Wells has that the two agree.
+-- `MemoryFormed` says it as facts, `memoryFormedOf` as the test that the code makes; proofs/Wells has that the two agree.
 -- What a field's value may be is not said here: it is a plain byte.
 use mathlib.Core.Path.{_≡_}
 use mathlib.Core.Bool.{Bool, true, false}
@@ -25,7 +25,7 @@ abbrev pub minProcesses : ℕ
 minProcesses = 2
 
 -- ---- as facts
-pub record WellFormed (m : Memory) : Type 0 where
+pub record MemoryFormed (m : Memory) : Type 0 where
   -- the arrays have their lengths
   pub marks-sized : length (m .marks) ≡ maxCells
   pub field0-sized : length (m .field0) ≡ maxCells
@@ -93,5 +93,5 @@ sizedOf m =
     and eqb (length (m .field1)) maxCells
     and eqb (length (m .buffers)) maxProcesses
 
-unfoldable pub wellFormedOf : Memory → Bool
-wellFormedOf m = sizedOf m and fitsOf m
+unfoldable pub memoryFormedOf : Memory → Bool
+memoryFormedOf m = sizedOf m and fitsOf m

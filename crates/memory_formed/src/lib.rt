@@ -3,7 +3,7 @@
 use buffers::Buffer;
 use memory::Memory;
 ghost use mathlib.Core.Path.{_≡_};
-ghost use Rattle.memory_formed.specs.WellFormed.{countsFitOf, cellFitsOf, cellsFitOf, heldFitsOf, buffersFitOf, fitsOf, wellFormedOf};
+ghost use Rattle.memory_formed.specs.WellFormed.{countsFitOf, cellFitsOf, cellsFitOf, heldFitsOf, buffersFitOf, fitsOf, memoryFormedOf};
 
 // The least counts. The greatest are those of `Memory`.
 pub struct Least;
@@ -110,7 +110,7 @@ fn fits(m: Memory) -> bool
 
 // The lengths of the arrays are those of their types, so nothing is left to test of them.
 pub fn well_formed(m: Memory) -> bool
-    ensures { λ r. ⌜ r ≡ wellFormedOf m ⌝ }
+    ensures { λ r. ⌜ r ≡ memoryFormedOf m ⌝ }
 {
     fits(m)
 }

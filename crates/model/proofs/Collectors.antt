@@ -25,7 +25,7 @@ use Rattle.state.specs.Codes.{row1Round, row2Read, row2Write, row3Round, row4Wr
 use Rattle.state.specs.States.{at, noting, leaving, listing, processOf, withProcess, withMemory, withSystem}
 use Rattle.marking.specs.Marks.{isSite, namesRoot, markedCell}
 use Rattle.collector.specs.Collectors.{isRound, rowOffers, collectorOffers, rowAsk, collectorAsk, sensed, flipped, taking, scanning, dropping, sweepFrom, sweeping, swept, rowGo, listGo, collectorGo}
-use Rattle.model.specs.Offers.{Bare, OnlyX, Among, markPlace, roundPlace, offerOf}
+use Rattle.model.specs.Offers.{Bare, OnlyX, AmongOffered, markPlace, roundPlace, offerOf}
 use Rattle.model.specs.Deeds.{rowDeed, deedOf}
 use Rattle.model.specs.Reasons.{mover}
 use Rattle.model.specs.Rows as row
@@ -127,7 +127,7 @@ module _ (s : State) (c : Choice) (z : Collecting s c) where
 
   -- ---- at a place with no stages: left is its row
   plain-view : {k : ℕ} → markPlace k ≡ false → roundPlace k ≡ false → Test c (offerOf (at k noStage q)) (ownOffers (s .memory .cells) c (at k noStage q)) → deedOf c (at k noStage q) ≡ deedFor (ownAsk c (at k noStage q))
-      → isOwn (ownAsk c (at k noStage q)) ≡ true → (At k noStage q → Among (s .memory .cells) c q (offerOf (at k noStage q)) → toldAt s c (at k noStage q) .no ≡ 0 → Rows (goneAt s c (at k noStage q) (toldAt s c (at k noStage q)))) → q .place ≡ k → Out
+      → isOwn (ownAsk c (at k noStage q)) ≡ true → (At k noStage q → AmongOffered (s .memory .cells) c q (offerOf (at k noStage q)) → toldAt s c (at k noStage q) .no ≡ 0 → Rows (goneAt s c (at k noStage q) (toldAt s c (at k noStage q)))) → q .place ≡ k → Out
   plain-view {k} m r w d u f e =
       let a : At k noStage q = record { place = e; stage = z .standing .unstaged (ap markPlace e ∙ m) (ap roundPlace e ∙ r) } in
       place-view s c a (omega (arith, z .first, e)) Rows (z .kind) (z .buffered) w refl refl refl d u (f a)

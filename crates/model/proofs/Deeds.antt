@@ -29,7 +29,7 @@ use Rattle.state.specs.declared.State.{State}
 use Rattle.state.specs.declared.Choice.{Choice}
 use Rattle.state.specs.declared.Answer.{Answer}
 use Rattle.state.specs.States.{refusedOf}
-use Rattle.model.specs.Offers.{Among, offerOf}
+use Rattle.model.specs.Offers.{AmongOffered, offerOf}
 use Rattle.model.specs.Deeds.{Deed, reads, sweeps, writes, fences, locks, unlocks, allocates, frees, apart, deedOf}
 use Rattle.model.specs.Reasons as reason
 use Rattle.model.specs.Reasons.{mover, waiting, Blocked, OnFree, FlagDown, NotOffered, Hindered, Waits, OfFree, Reason}
@@ -39,7 +39,7 @@ use Rattle.model.proofs.Numbers.{Looked, Unblocked, Granted, Lent, Drai
 
 -- the choice is among what the mover's place offers
 abbrev pub Offered : State → Choice → Type 0
-Offered s c = Among (s .memory .cells) c (mover s c) (offerOf (mover s c))
+Offered s c = AmongOffered (s .memory .cells) c (mover s c) (offerOf (mover s c))
 
 pub record Ready (s : State) (c : Choice) (d : Deed) : Type 0 where
   pub kind : c .kind ≡ 0

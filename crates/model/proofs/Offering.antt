@@ -17,7 +17,7 @@ use Rattle.state.specs.declared.State.{State}
 use Rattle.state.specs.declared.Choice.{Choice}
 use Rattle.state.specs.Choices.{isBlank, isBare, isOfX, isNaming}
 use Rattle.model.specs.Offers as offer
-use Rattle.model.specs.Offers.{Bare, OnlyX, Among, offerOf}
+use Rattle.model.specs.Offers.{Bare, OnlyX, AmongOffered, offerOf}
 use Rattle.model.specs.Reasons.{mover, FlagDown}
 use Rattle.model.proofs.Deeds.{Offered}
 
@@ -63,11 +63,11 @@ module _ (c : Choice) where
 
 module _ (s : State) (c : Choice) where
   -- what is offered, where the offer is known
-  pub among : {o : offer.Offer} → offerOf (mover s c) ≡ o → Among (s .memory .cells) c (mover s c) o → Offered s c
-  among e h = subst (Among (s .memory .cells) c (mover s c)) (sym e) h
+  pub among : {o : offer.Offer} → offerOf (mover s c) ≡ o → AmongOffered (s .memory .cells) c (mover s c) o → Offered s c
+  among e h = subst (AmongOffered (s .memory .cells) c (mover s c)) (sym e) h
 
-  pub amid : {o : offer.Offer} → offerOf (mover s c) ≡ o → Offered s c → Among (s .memory .cells) c (mover s c) o
-  amid e h = subst (Among (s .memory .cells) c (mover s c)) e h
+  pub amid : {o : offer.Offer} → offerOf (mover s c) ≡ o → Offered s c → AmongOffered (s .memory .cells) c (mover s c) o
+  amid e h = subst (AmongOffered (s .memory .cells) c (mover s c)) e h
 
 pub no-flag : (s : State) (c : Choice) {k : ℕ} → mover s c .place ≡ k → 0 < k → FlagDown s c → ⊥
 no-flag s c e l f = omega (arith, f .place)

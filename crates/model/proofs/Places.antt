@@ -21,7 +21,7 @@ use Rattle.state.specs.Choices.{isBlank, isNaming}
 use Rattle.state.specs.Acts.{settingOf, wentOf}
 use Rattle.mutator.specs.Mutators.{flagWaits}
 use Rattle.model.specs.Offers as offer
-use Rattle.model.specs.Offers.{Offer, Among, offerOf}
+use Rattle.model.specs.Offers.{Offer, AmongOffered, offerOf}
 use Rattle.model.specs.Deeds.{deedOf}
 use Rattle.model.specs.Reasons.{mover}
 use Rattle.model.specs.Rows.{At}
@@ -49,7 +49,7 @@ goneAt s c q t = wentOf (withMemory s (t .memory)) (c .process) (ownGo c (settin
 
 module _ (s : State) (c : Choice) where
   abbrev Within : Offer → Type 0
-  Within o = Among (s .memory .cells) c (mover s c) o
+  Within o = AmongOffered (s .memory .cells) c (mover s c) o
 
   passes : {o : Offer} {t : Bool} → Test c o t → t ≡ true → Within o
   passes blank e = blank-bare c e

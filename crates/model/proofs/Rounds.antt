@@ -33,7 +33,7 @@ use Rattle.rounds.specs.Rounds.{roundOffers, roundAsk, raising, polling, pollGo
 use Rattle.marking.specs.Marks.{isSite}
 use Rattle.collector.specs.Collectors.{isRound, collectorOffers, collectorAsk, rowRound, collectorGo}
 use Rattle.model.specs.Offers as offer
-use Rattle.model.specs.Offers.{Offer, Among, roundPlace, offerOf}
+use Rattle.model.specs.Offers.{Offer, AmongOffered, roundPlace, offerOf}
 use Rattle.model.specs.Deeds as deed
 use Rattle.model.specs.Deeds.{deedOf}
 use Rattle.model.specs.Reasons.{mover}
@@ -123,7 +123,7 @@ module _ (s : State) (c : Choice) {k j l : ℕ} {t : RoundType} (r : Round k t j
 
     -- at the stage i: left is its row
     at-stage : {i : ℕ} → q .stage ≡ i → Test c (offered i q) (roundOffers c (staying i)) → pick (eqb i fenceStage) deed.fences deed.apart ≡ deedFor (roundAsk (staying i)) → isOwn (roundAsk (staying i)) ≡ true
-        → (Among (s .memory .cells) c q (offered i q) → told i .no ≡ 0 → Rows (onward i)) → View Rows s c (ownOf s c)
+        → (AmongOffered (s .memory .cells) c q (offered i q) → told i .no ≡ 0 → Rows (onward i)) → View Rows s c (ownOf s c)
     at-stage {i} h x d u f =
         let w = turn c q r i in
         place-view s c (here h) (w .low) Rows (z .kind) (z .buffered) x (w .offer) (w .offers _) (w .asked) (w .deed ∙ d) u (λ b n. rw (w .go _ _) (f b n))

@@ -1,6 +1,6 @@
 -- What a step does with memory, as a table over places and stages: this decides which of the checks 7 to 11 it has to
 -- pass. Assumes nothing.
-use mathlib.Core.Bool.{Bool, not, _||_}
+use mathlib.Core.Bool.{not, _||_}
 use Prim.Native.Nat.{ℕ}
 use lib.Dec.{eqb}
 use Rattle.base.specs.Pick.{pick}

@@ -3,7 +3,7 @@
 -- stages, and when a choice is among it. Assumes nothing.
 use mathlib.Core.Path.{_≡_}
 use mathlib.Core.Logic.{_⊎_}
-use mathlib.Core.Bool.{Bool, true, false, _||_, _&&_}
+use mathlib.Core.Bool.{Bool, _||_, _&&_}
 use Prim.Native.Nat.{ℕ, _≤_, _<_}
 use lib.Dec.{eqb}
 use Rattle.base.specs.Pick.{pick}
@@ -58,7 +58,7 @@ pub data Operation (n : ℕ) (c : Choice) (q : Process) : Type 0 where
   answers : c .op ≡ 5 → c .x ≡ 0 → c .f ≡ 0 → c .y ≡ 0 → Operation n c q
 
 -- the choice is among what is offered
-abbrev pub Among : ℕ → Choice → Process → Offer → Type 0
-Among n c q nothing = Bare c
-Among n c q (oneOf s) = OnlyX c × Member s (c .x)
-Among n c q operation = Operation n c q
+abbrev pub AmongOffered : ℕ → Choice → Process → Offer → Type 0
+AmongOffered n c q nothing = Bare c
+AmongOffered n c q (oneOf s) = OnlyX c × Member s (c .x)
+AmongOffered n c q operation = Operation n c q

@@ -2,7 +2,7 @@
 -- Checks run in number order: the number given is that of the first reason that holds (`Refused` of crate `engine`).
 -- Assumes nothing.
 use mathlib.Core.Path.{_≡_}
-use mathlib.Core.Bool.{Bool, true, false}
+use mathlib.Core.Bool.{true, false}
 use mathlib.Core.List.{List, [], _∷_}
 use Prim.Native.Nat.{ℕ, _+_, _≤_, _<_}
 use lib.ListN.{length}
@@ -10,7 +10,7 @@ use Rattle.buffers.specs.declared.Spot.{Spot}
 use Rattle.buffers.specs.declared.Spot.the-variants as spot
 use Rattle.buffers.specs.declared.Store.{Store}
 use Rattle.buffers.specs.declared.Entry.{Entry}
-use Rattle.buffers.specs.Stores.{spotOf, noEntry}
+use Rattle.buffers.specs.Stores.{spotOf}
 use Rattle.buffers.specs.Buffers.{maxStores, pendingOf}
 use Rattle.memory.specs.declared.Memory.{Memory}
 use Rattle.memory.specs.Memories.{usedOf, bufferOf}
@@ -20,8 +20,8 @@ use Rattle.state.specs.declared.Choice.{Choice}
 use Rattle.state.specs.Codes.{top}
 use Rattle.state.specs.States.{mutatorsOf, processOf}
 use Rattle.formed.specs.Fits.{WellFormed}
-use Rattle.model.specs.Offers.{Bare, Among, offerOf}
-use Rattle.model.specs.Deeds.{Deed, reads, sweeps, writes, fences, locks, unlocks, allocates, frees, apart, deedOf}
+use Rattle.model.specs.Offers.{Bare, AmongOffered, offerOf}
+use Rattle.model.specs.Deeds.{Deed, reads, sweeps, writes, fences, locks, unlocks, allocates, frees, deedOf}
 
 -- the process that the choice names, and its pending stores, oldest first
 abbrev pub mover : State → Choice → Process
@@ -52,7 +52,7 @@ OnFree m spot.Phase = ⊥
 
 -- 4: an argument that is not offered; a commit offers none
 pub data NotOffered (s : State) (c : Choice) : Type 0 where
-  own : c .kind ≡ 0 → (Among (s .memory .cells) c (mover s c) (offerOf (mover s c)) → ⊥) → NotOffered s c
+  own : c .kind ≡ 0 → (AmongOffered (s .memory .cells) c (mover s c) (offerOf (mover s c)) → ⊥) → NotOffered s c
   commit : Commit c → (Bare c → ⊥) → NotOffered s c
 
 -- 6: "operation 5, flag down"

@@ -12,7 +12,6 @@ use Rattle.base.specs.Refusals.{asTaken}
 use Rattle.cells.specs.Sets.{noCells, Member, addOf, removeOf, unionOf, fullOf}
 use Rattle.buffers.specs.declared.Phase.{Phase}
 use Rattle.buffers.specs.declared.Phase.the-variants as phase
-use Rattle.buffers.specs.declared.Store.{Store}
 use Rattle.buffers.specs.declared.Store.the-variants as store
 use Rattle.memory.specs.declared.Memory.{Memory}
 use Rattle.memory.specs.declared.SeenBit.{SeenBit}

@@ -4,7 +4,6 @@
 use base::Refusal;
 use memory::asks::Ask;
 use memory::asks::Sight;
-use state::Answer;
 use state::Choice;
 use state::Process;
 use state::acts::Going;

@@ -6,8 +6,6 @@ use memory::Memory;
 use state::Process;
 use state::State;
 ghost use mathlib.Core.Path.{_≡_};
-ghost use Prim.Native.Nat.{min};
-ghost use Rattle.buffers.specs.Buffers.{maxStores};
 ghost use Rattle.reach.specs.Held.{withProcessOf, withEntryOf, withBufferOf, ofProcesses, ofBuffers, heldOf};
 
 // The cells held, with the roots and the honorary root of q. Null is no cell, and stays out.
@@ -39,18 +37,10 @@ fn with_entry(held: u64, e: Entry) -> u64
     }
 }
 
-// How many entries of the buffer are pending: a length out of range counts as the whole.
-fn pending(b: Buffer) -> usize
-    ensures { λ r. ⌜ r ≡ min (b .len) maxStores ⌝ }
-{
-    let n = b.len;
-    if n < Buffer::MAX { n } else { Buffer::MAX }
-}
-
 fn with_buffer(start: u64, b: Buffer) -> u64
     ensures { λ r. ⌜ r ≡ withBufferOf start b ⌝ }
 {
-    let n = pending(b);
+    let n = b.pending();
     let mut held = start;
     let mut i = 0;
     while i < n {

@@ -63,7 +63,7 @@ verdict-not-admitted log = go (judged log)
     go : Judges log (judgeOf log) → (judgeOf log .verdict ≡ isMalformed) ↔ (Admitted log → ⊥)
     go (shut n u) = (λ _. n, λ _. u .verdict)
     go (runs a r) =
-        (λ e. absurd (verdict.malformed-exactly (r .state) .0 (sym (r .verdict) ∙ e) (taken-formed log a (r .taken))), λ n. absurd (n a))
+        (λ e. absurd (verdict.malformed-judged (r .state) .0 (sym (r .verdict) ∙ e) (taken-formed log a (r .taken))), λ n. absurd (n a))
 
 pub ran-judged : RanJudged
 unfolding outcomeOf

@@ -1,6 +1,6 @@
 -- Records written from choices, and read again. Assumes nothing.
---     written-eight, written-bytes     a record is eight bytes
---     written-read, written-right      read again at any place it is the choice with its right check
+--     written-eight, written-record-bytes     a record is eight bytes
+--     written-record-read, written-right      read again at any place it is the choice with its right check
 --     log-opens                        a log written whole is admitted
 --     log-records, log-choices         and its records are those of the choices
 use mathlib.Core.Path.{_≡_, refl, ap, ap₂, _∙_}
@@ -20,13 +20,13 @@ use Rattle.runlog.specs.declared.record.Record.{Record}
 use Rattle.runlog.specs.Records.{recordSize, checkPlace, choiceAt, recordAt, checkOf}
 use Rattle.runlog.specs.Rule.{placeOf}
 use Rattle.runlog.specs.Statements.{choicesOf}
-use Rattle.runlog.specs.Written.{checkSize, sixOf, recordBytes, ChoiceFits, rightRecord, noChoice, choiceOf, recordsOf, logOf, WrittenEight, WrittenBytes, WrittenRead, WrittenRight, LogOpens, LogRecords, LogChoices}
+use Rattle.runlog.specs.Written.{checkSize, sixOf, recordBytes, ChoiceFits, rightRecord, noChoice, choiceOf, recordsOf, logOf, WrittenEight, WrittenRecordBytes, WrittenRecordRead, WrittenRight, LogOpens, LogRecords, LogChoices}
 
 pub written-eight : WrittenEight
 written-eight c = refl
 
-pub written-bytes : WrittenBytes
-written-bytes c w = bytes-join (sixOf c) (littleOf checkSize (checkOf c)) (bytes-each (sixOf c) (omega arith)) (bytes-little checkSize (checkOf c))
+pub written-record-bytes : WrittenRecordBytes
+written-record-bytes c w = bytes-join (sixOf c) (littleOf checkSize (checkOf c)) (bytes-each (sixOf c) (omega arith)) (bytes-little checkSize (checkOf c))
 
 -- ---- where its eight bytes stand
 module _ (log : List ℕ) (at : ℕ) (c : Choice) (w : ChoiceFits c) (b : (j : ℕ) → j < recordSize → byteAt log (at + j) ≡ getD (recordBytes c) j 0) where
@@ -51,19 +51,19 @@ module _ (log : List ℕ) (at : ℕ) (c : Choice) (w : ChoiceFits c) (b : (j : �
   unfolding recordAt
   read = rw (choice, check) refl
 
-pub written-read : WrittenRead
-written-read before after c w =
+pub written-record-read : WrittenRecordRead
+written-record-read before after c w =
     read (before ++ (recordBytes c ++ after)) (length before) c w
     (λ j l. getD-append-add before (recordBytes c ++ after) j 0 ∙ List·getD-append (recordBytes c) after 0 j l)
 
 pub written-right : WrittenRight
-written-right before after c w = rw (written-read before after c w) refl
+written-right before after c w = rw (written-record-read before after c w) refl
 
 -- ---- a whole log
 pub log-opens : LogOpens
 log-opens h cs w f b =
     record {
-      bytes = bytes-join (bytesOf h) (recordsOf cs) (header.written-bytes h w) (bytes-turns (λ k. recordBytes (choiceOf cs k)) (length cs) (λ k l. written-bytes (choiceOf cs k) (f k l)));
+      bytes = bytes-join (bytesOf h) (recordsOf cs) (header.written-bytes h w) (bytes-turns (λ k. recordBytes (choiceOf cs k)) (length cs) (λ k l. written-record-bytes (choiceOf cs k) (f k l)));
       admitted = header.written-admitted h (recordsOf cs) w b;
     }
 

@@ -61,12 +61,12 @@ logOf h cs = bytesOf h ++ recordsOf cs
 abbrev pub WrittenEight : Type 0
 WrittenEight = (c : Choice) → length (recordBytes c) ≡ recordSize
 
-abbrev pub WrittenBytes : Type 0
-WrittenBytes = (c : Choice) → ChoiceFits c → Bytes (recordBytes c)
+abbrev pub WrittenRecordBytes : Type 0
+WrittenRecordBytes = (c : Choice) → ChoiceFits c → Bytes (recordBytes c)
 
 -- read again at any place of a log they give the choice, and its check is right
-abbrev pub WrittenRead : Type 0
-WrittenRead = (before after : List ℕ) (c : Choice) → ChoiceFits c → recordAt (before ++ (recordBytes c ++ after)) (length before) ≡ rightRecord c
+abbrev pub WrittenRecordRead : Type 0
+WrittenRecordRead = (before after : List ℕ) (c : Choice) → ChoiceFits c → recordAt (before ++ (recordBytes c ++ after)) (length before) ≡ rightRecord c
 
 abbrev pub WrittenRight : Type 0
 WrittenRight = (before after : List ℕ) (c : Choice) → ChoiceFits c → RightCheck (recordAt (before ++ (recordBytes c ++ after)) (length before))

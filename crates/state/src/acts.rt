@@ -195,6 +195,7 @@ impl State {
         self.procs = after;
         self.with_process(p, q)
     }
+
     // What a step whose choice names x may know.
     pub fn setting(self, x: u8) -> Setting
         ensures { λ r. ⌜ r ≡ settingOf self x ⌝ }

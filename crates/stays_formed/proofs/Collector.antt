@@ -17,7 +17,7 @@ use Rattle.memory.specs.declared.Memory.{Memory}
 use Rattle.memory.specs.Memories.{taken}
 use Rattle.memory.specs.Looks.{lookFieldOf}
 use Rattle.memory.specs.Steps.{writeOf, freeOf}
-use Rattle.memory_formed.specs.WellFormed as sound
+use Rattle.memory_formed.specs.WellFormed.{MemoryFormed}
 use Rattle.memory_formed.proofs.Kept.{write-kept, free-kept}
 use Rattle.state.specs.declared.RoundType.{RoundType}
 use Rattle.state.specs.declared.Process.{Process}
@@ -26,17 +26,17 @@ use Rattle.state.specs.declared.State.{State}
 use Rattle.state.specs.declared.Choice.{Choice}
 use Rattle.state.specs.Codes.{row2Read, row2Write, row4Write, row5Phase, row5Alloc, row6Take, row7Read0, row7Read1, row7Drop, row8Take, row9Write, row11Write, noStage, lookStage, fenceStage, raiseStage, pollStage}
 use Rattle.state.specs.States.{at, noting, leaving, marking, listing, mutatorsOf, processOf, withProcess, withMemory, withSystem}
-use Rattle.formed.specs.Fits.{Among, roundPlaces, plainPlaces, scanMarkPlaces, Unmarked, Round, CollectorAt, plain, round, scan, scan-mark, sweep, sweep-free, CollectorFits, WellFormed}
+use Rattle.formed.specs.Fits.{Among, roundPlaces, plainPlaces, scanMarkPlaces, Unmarked, RoundNotes, CollectorAt, plain, round, scan, scan-mark, sweep, sweep-free, CollectorFits, WellFormed}
 use Rattle.formed.proofs.Gives.{plain-at, round-at, scan-at, sweep-at, sweep-free-at, collector-within, mark-begins, shakes}
 use Rattle.formed.proofs.Keeps.{keeps-collector, keeps-mutator, keeps-system}
-use Rattle.model.specs.Rows.{seesValue, At, withList, Round as RoundRow, row1, row3, row4, row5, row6, row8, Collector, withProcesses, allOff, flagged}
+use Rattle.model.specs.Rows.{seesValue, At, withList, Round, row1, row3, row4, row5, row6, row8, Collector, withProcesses, allOff, flagged}
 use Rattle.stays_formed.specs.Kept.{Fits, collects}
 use Rattle.stays_formed.proofs.Values.{write-ranged, free-ranged, seen-value}
 use Rattle.stays_formed.proofs.Frames.{ranged, off-framed, moved}
 use Rattle.stays_formed.proofs.Marking.{running, mark-fits, mark-memory}
 
 -- ---- the rounds of the table
-pub round-place : {k j l : ℕ} {t : RoundType} → RoundRow k t j l → Among k roundPlaces
+pub round-place : {k j l : ℕ} {t : RoundType} → Round k t j l → Among k roundPlaces
 round-place row1 = refl
 round-place row3 = refl
 round-place row4 = refl
@@ -44,7 +44,7 @@ round-place row5 = refl
 round-place row6 = refl
 round-place row8 = refl
 
-pub round-next : {k j l : ℕ} {t : RoundType} → RoundRow k t j l → ((Among j plainPlaces) × (l ≡ noStage)) ⊎ ((Among j roundPlaces) × (l ≡ fenceStage))
+pub round-next : {k j l : ℕ} {t : RoundType} → Round k t j l → ((Among j plainPlaces) × (l ≡ noStage)) ⊎ ((Among j roundPlaces) × (l ≡ fenceStage))
 round-next row1 = inl (refl, refl)
 round-next row3 = inl (refl, refl)
 round-next row4 = inl (refl, refl)
@@ -85,7 +85,7 @@ module _ (s : State) (c : Choice) (q : Process) (w : WellFormed s) (f : Collecto
   seen : {v : ℕ} (x i : ℕ) → lookFieldOf (s .memory) 0 x i ≡ seesValue v → v ≤ s .memory .cells
   seen {v} x i e = seen-value (ranged s w) 0 x i v e
 
-  rounded : {k j l i : ℕ} {t : RoundType} → RoundRow k t j l → At k i q → Round (mutatorsOf s) q
+  rounded : {k j l i : ℕ} {t : RoundType} → Round k t j l → At k i q → RoundNotes (mutatorsOf s) q
   rounded r a = round-at _ (round-place r) (a .place) f
 
   goes : (t : Process) → CollectorFits (s .memory .cells) (mutatorsOf s) t → WellFormed (withProcess s 0 t)
@@ -94,12 +94,12 @@ module _ (s : State) (c : Choice) (q : Process) (w : WellFormed s) (f : Collecto
   -- a write of fM, fA or the phase, which holds no cell and no value
   wrote : (v : Store) {m : Memory} (t : Process) → StoreFits (s .memory .cells) v → valueOf v ≡ 0 → writeOf (s .memory) 0 (record { store = v }) ≡ taken m → CollectorFits (s .memory .cells) (mutatorsOf s) t → WellFormed (withProcess (withMemory s m) 0 t)
   wrote v {m} t i z e k =
-      let u : sound.WellFormed m = rw e at (write-kept (s .memory) 0 (w .memory) here (record { store = v }) i) in
+      let u : MemoryFormed m = rw e at (write-kept (s .memory) 0 (w .memory) here (record { store = v }) i) in
       moved s w m u (write-ranged 0 (w .memory) u (ranged s w) (record { store = v }) (omega arith) e) 0 t (omega arith) (collects refl k)
 
   freed : {m : Memory} (t : Process) → IsCell (s .memory .cells) (q .x) → freeOf (s .memory) 0 (q .x) ≡ taken m → CollectorFits (s .memory .cells) (mutatorsOf s) t → WellFormed (withProcess (withMemory s m) 0 t)
   freed {m} t i e k =
-      let u : sound.WellFormed m = rw e at (free-kept (s .memory) 0 (w .memory) here (q .x)) in
+      let u : MemoryFormed m = rw e at (free-kept (s .memory) 0 (w .memory) here (q .x)) in
       moved s w m u (free-ranged 0 (w .memory) u (ranged s w) (q .x) i e) 0 t (omega arith) (collects refl k)
 
   -- a flag is raised
@@ -109,7 +109,7 @@ module _ (s : State) (c : Choice) (q : Process) (w : WellFormed s) (f : Collecto
       (keeps-mutator s w x (flagged (processOf s x)) (i .0) (i .1) (shakes true (processOf s x .part .in_step) (processOf s x .part .phase) (w .mutators x (i .0) (i .1)))) t k
 
   -- one less is left in a round
-  fewer : {k j l i : ℕ} {t : RoundType} → RoundRow k t j l → At k i q → raiseStage ≤ i → CollectorFits (s .memory .cells) (mutatorsOf s) (leaving (removeOf (q .left) (c .x)) q)
+  fewer : {k j l i : ℕ} {t : RoundType} → Round k t j l → At k i q → raiseStage ≤ i → CollectorFits (s .memory .cells) (mutatorsOf s) (leaving (removeOf (q .left) (c .x)) q)
   fewer r a h =
       let k = rounded r a in
       renoted f (f .work)
@@ -124,7 +124,7 @@ module _ (s : State) (c : Choice) (q : Process) (w : WellFormed s) (f : Collecto
       }))
 
   -- all mutators are left in a round
-  filled : {k j l i : ℕ} {t : RoundType} → RoundRow k t j l → At k i q → (g : ℕ) → raiseStage ≤ g → g ≤ pollStage → CollectorFits (s .memory .cells) (mutatorsOf s) (at k g (leaving (fullOf (mutatorsOf s)) q))
+  filled : {k j l i : ℕ} {t : RoundType} → Round k t j l → At k i q → (g : ℕ) → raiseStage ≤ g → g ≤ pollStage → CollectorFits (s .memory .cells) (mutatorsOf s) (at k g (leaving (fullOf (mutatorsOf s)) q))
   filled r a g h u =
       let k = rounded r a in
       renoted f (f .work)

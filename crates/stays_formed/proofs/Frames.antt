@@ -13,7 +13,7 @@ use Prim.Native.Nat.{ℕ, zero, suc, _≤_, _<_}
 use native.Mathlib.Omega.{arith}
 use lib.ListN.{length, getD, length-map, List·getD-map}
 use Rattle.memory.specs.declared.Memory.{Memory}
-use Rattle.memory_formed.specs.WellFormed as sound
+use Rattle.memory_formed.specs.WellFormed.{MemoryFormed}
 use Rattle.state.specs.declared.Process.{Process}
 use Rattle.state.specs.declared.State.{State}
 use Rattle.state.specs.States.{noProcess, mutatorsOf, processOf, withProcess, withMemory}
@@ -49,7 +49,7 @@ module _ (s : State) (w : WellFormed s) where
   pub ranged : Ranged (s .memory .cells) (s .memory .processes) (s .memory)
   ranged = record { cells = refl; processes = refl; fields = w .fields; pending = w .pending }
 
-  pub memory-framed : (m : Memory) → sound.WellFormed m → Ranged (s .memory .cells) (s .memory .processes) m → WellFormed (withMemory s m)
+  pub memory-framed : (m : Memory) → MemoryFormed m → Ranged (s .memory .cells) (s .memory .processes) m → WellFormed (withMemory s m)
   memory-framed m k r = keeps-memory s w m k (r .cells) (r .processes) (rw (r .cells) (r .fields)) (rw (r .cells) (r .pending))
 
   pub process-framed : (p : ℕ) (q : Process) → p ≤ mutatorsOf s → Fits (s .memory .cells) (mutatorsOf s) p q → WellFormed (withProcess s p q)
@@ -63,6 +63,6 @@ module _ (s : State) (w : WellFormed s) where
       (λ p a. off-rest (s .procs) p (omega arith) ∙ ap stepOut (w .nobody p a))
 
 -- ---- memory and a process replaced
-module _ (s : State) (w : WellFormed s) (m : Memory) (k : sound.WellFormed m) (r : Ranged (s .memory .cells) (s .memory .processes) m) where
+module _ (s : State) (w : WellFormed s) (m : Memory) (k : MemoryFormed m) (r : Ranged (s .memory .cells) (s .memory .processes) m) where
   pub moved : (p : ℕ) (q : Process) → p ≤ mutatorsOf s → Fits (s .memory .cells) (mutatorsOf s) p q → WellFormed (withProcess (withMemory s m) p q)
   moved p q l f = process-framed (withMemory s m) (memory-framed s w m k r) p q (rw (r .processes) l) (rw (r .cells, r .processes) f)

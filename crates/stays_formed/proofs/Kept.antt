@@ -3,7 +3,7 @@
 --     rows-kept      the same, as the statement of specs/
 use Prim.Native.Nat.{_<_}
 use native.Mathlib.Omega.{arith}
-use Rattle.memory_formed.specs.WellFormed as sound
+use Rattle.memory_formed.specs.WellFormed.{MemoryFormed}
 use Rattle.memory_formed.proofs.Kept.{commit-kept}
 use Rattle.state.specs.declared.State.{State}
 use Rattle.state.specs.declared.Choice.{Choice}
@@ -21,7 +21,7 @@ row-kept s c w (Row.collector k z r) = collector-kept s c (processOf s 0) w (w .
 row-kept s c w (Row.mutator k {p = p} e pos mine r) = mutator-kept s c p (processOf s p) w pos mine (w .mutators p pos mine) r
 row-kept s c w (Row.commits k {p = p} e mine b {m = m} h) =
     let here : p < s .memory .processes = omega (arith, w .memory .some-processes) in
-    let k : sound.WellFormed m = rw h at (commit-kept (s .memory) p (w .memory) here) in
+    let k : MemoryFormed m = rw h at (commit-kept (s .memory) p (w .memory) here) in
     memory-framed s w m k (commit-ranged p (w .memory) k (ranged s w) h)
 
 pub rows-kept : RowKept

@@ -19,7 +19,7 @@ use Rattle.buffers.specs.Fits.{IsCell}
 use Rattle.memory.specs.declared.Memory.{Memory}
 use Rattle.memory.specs.Memories.{taken}
 use Rattle.memory.specs.Steps.{lockOf, unlockOf}
-use Rattle.memory_formed.specs.WellFormed as sound
+use Rattle.memory_formed.specs.WellFormed.{MemoryFormed}
 use Rattle.memory_formed.proofs.Kept.{write-kept, lock-kept, unlock-kept}
 use Rattle.state.specs.declared.Process.{Process}
 use Rattle.state.specs.Codes.{rootsMark, row7Mark0, row7Mark1, lookStage, senseStage, phaseStage, lockStage, againStage, writeStage, unlockStage}
@@ -179,14 +179,14 @@ module _ {n m p r : ℕ} {q : Process} (f : Fits n m p q) (k : Running n m p r q
   mark-fits (Mark.wins e g h i) = next-fits n m p q (q .sense) (addOf (q .work) r) (below-add (q .work) r n (k .notes .is-cell .1) (k .work)) f i
   mark-fits (Mark.loses e g h i) = next-fits n m p q (q .sense) (q .work) (k .work) f i
 
-module _ {c j : ℕ} (m : Memory) (p r : ℕ) (w : sound.WellFormed m) (v : Ranged c j m) (mine : p < m .processes) (is : IsCell (m .cells) r) where
-  locked : {n : Memory} → lockOf m p ≡ taken n → sound.WellFormed n × Ranged c j n
+module _ {c j : ℕ} (m : Memory) (p r : ℕ) (w : MemoryFormed m) (v : Ranged c j m) (mine : p < m .processes) (is : IsCell (m .cells) r) where
+  locked : {n : Memory} → lockOf m p ≡ taken n → MemoryFormed n × Ranged c j n
   locked g = let a = rw g at (lock-kept m p w mine) in (a, lock-ranged p w a v g)
 
-  unlocked : {n : Memory} → unlockOf m p ≡ taken n → sound.WellFormed n × Ranged c j n
+  unlocked : {n : Memory} → unlockOf m p ≡ taken n → MemoryFormed n × Ranged c j n
   unlocked g = let a = rw g at (unlock-kept m p w mine) in (a, unlock-ranged p w a v g)
 
-  pub mark-memory : {q t : Process} {n : Memory} → Mark m p r q n t → sound.WellFormed n × Ranged c j n
+  pub mark-memory : {q t : Process} {n : Memory} → Mark m p r q n t → MemoryFormed n × Ranged c j n
   mark-memory (Mark.looks e g) = (w, v)
   mark-memory (Mark.equal e g h) = (w, v)
   mark-memory (Mark.unequal e g) = (w, v)

@@ -11,7 +11,7 @@ use Rattle.buffers.specs.declared.Store.the-variants as store
 use Rattle.buffers.specs.declared.Entry.{Entry}
 use Rattle.buffers.specs.Fits.{IsCell}
 use Rattle.memory.specs.Looks.{lookFieldOf}
-use Rattle.memory_formed.specs.WellFormed as sound
+use Rattle.memory_formed.specs.WellFormed.{MemoryFormed}
 use Rattle.memory_formed.proofs.Kept.{write-kept, allocate-kept}
 use Rattle.state.specs.declared.Handshake.{Handshake}
 use Rattle.state.specs.declared.RoundType.{RoundType}
@@ -88,7 +88,7 @@ module _ (s : State) (c : Choice) (p : ℕ) (q : Process) (w : WellFormed s) (po
   pub mutator-kept : {t : State} → Mutator s c p q t → WellFormed t
   mutator-kept (Mutator.allocates a o x l g y {m = m} e) =
       let is : IsCell (s .memory .cells) (c .x) = (x, l) in
-      let k : sound.WellFormed m = rw e at (allocate-kept (s .memory) p (w .memory) here (c .x) is) in
+      let k : MemoryFormed m = rw e at (allocate-kept (s .memory) p (w .memory) here (c .x) is) in
       moved s w m k (allocate-ranged p (w .memory) k (ranged s w) (c .x) is e) p _ mine
       (mutates pos (lists (q .work) _ f (f .work) (below-add (q .roots) (c .x) (s .memory .cells) l (f .roots))))
   mutator-kept (Mutator.drops a o m g y) = goes _ (lists (q .work) _ f (f .work) (below-remove (q .roots) (c .x) (s .memory .cells) (f .roots)))
@@ -126,7 +126,7 @@ module _ (s : State) (c : Choice) (p : ℕ) (q : Process) (w : WellFormed s) (po
   mutator-kept (Mutator.writes a b {m = m} e) =
       let k = write-at (a .place) f in
       let v : Entry = record { store = store.Field (q .x) (q .f) (q .y) } in
-      let u : sound.WellFormed m = rw e at (write-kept (s .memory) p (w .memory) here v (k .notes .is-x, k .notes .is-f)) in
+      let u : MemoryFormed m = rw e at (write-kept (s .memory) p (w .memory) here v (k .notes .is-x, k .notes .is-f)) in
       moved s w m u (write-ranged p (w .memory) u (ranged s w) v (k .notes .is-y) e) p _ mine
       (mutates pos
       (record {

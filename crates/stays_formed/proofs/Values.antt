@@ -28,7 +28,7 @@ use Rattle.memory.proofs.Spots.{Alike, field-same, held-field}
 use Rattle.memory.proofs.Effects.{Written, Committed, Relocked, Reset, write-taken, commit-taken, lock-taken, unlock-taken, allocate-taken, free-taken}
 use Rattle.memory.proofs.Commits.{committed-field}
 use Rattle.memory.proofs.Sights.{look-field-taken}
-use Rattle.memory_formed.specs.WellFormed as sound
+use Rattle.memory_formed.specs.WellFormed.{MemoryFormed}
 use Rattle.memory_formed.proofs.Shapes.{shaped, pending-entries, entries-pending}
 use Rattle.model.specs.Rows.{seesValue}
 use Rattle.stays_formed.specs.Kept.{Ranged}
@@ -48,7 +48,7 @@ module _ {k j : ℕ} {m : Memory} (r : Ranged k j m) where
       rw g (view-from (λ (s : Store). valueOf s ≤ k) m p (spot.Field c f) (pending-in p) (rw (held-field m c f) (r .fields c f)))
 
 -- ---- what changed, by the records of memory's laws
-module _ {k j : ℕ} {m n : Memory} (r : Ranged k j m) (w : sound.WellFormed n) where
+module _ {k j : ℕ} {m n : Memory} (r : Ranged k j m) (w : MemoryFormed n) where
   after : n .cells ≡ m .cells → n .processes ≡ m .processes → ((c f : ℕ) → fieldOf n c f ≤ k) → ((q : ℕ) (e : Entry) → List·Memᴰ e (pendingFor n q) → Holds k e) → Ranged k j n
   after a b f g = record { cells = a ∙ r .cells; processes = b ∙ r .processes; fields = f; pending = λ q. entries-pending (Holds k) n w q (omega arith) (g q) }
 
@@ -81,7 +81,7 @@ module _ {k j : ℕ} {m n : Memory} (r : Ranged k j m) (w : sound.WellFormed n) 
       (λ q e i. pending-in r q e (rw (a .pending q) at i))
 
 -- ---- the steps that are taken
-module _ {k j : ℕ} {m n : Memory} (p : ℕ) (z : sound.WellFormed m) (w : sound.WellFormed n) (r : Ranged k j m) where
+module _ {k j : ℕ} {m n : Memory} (p : ℕ) (z : MemoryFormed m) (w : MemoryFormed n) (r : Ranged k j m) where
   pub write-ranged : (e : Entry) → Holds k e → writeOf m p e ≡ taken n → Ranged k j n
   write-ranged e h g = written r w h (write-taken p e (shaped m z) g)
 

@@ -1,7 +1,7 @@
 -- The finding of any state. Assumes nothing.
 --     formed-bounded       a well-formed state keeps the bounds that the verdicts lean on
 --     found-exactly        the finding that is computed is document 01's, and the only one
---     malformed-exactly    verdict 4 exactly if the state is malformed
+--     malformed-judged    verdict 4 exactly if the state is malformed
 --     formed-judged        of a well-formed state it is the finding that does not look for that
 --     formed-verdicts      each verdict of a well-formed state exactly if it applies and no lesser one does
 use mathlib.Core.Path.{_≡_, refl, sym, ap, _∙_}
@@ -32,8 +32,8 @@ use Rattle.formed.specs.Fits.{MutatorAt, idle, mark-old, mark-y, write, roots-f
 use Rattle.formed.specs.WellFormed.{wellFormedOf}
 use Rattle.formed.proofs.Whole.{well-formed}
 use Rattle.verdict.specs.declared.Finding.{Finding}
-use Rattle.verdict.specs.Judged.{isMalformed, found, Judged, loose, black, table, clean}
-use Rattle.verdict.specs.Findings.{Found, malformed, formed, findingOf, FormedBounded, FoundExactly, MalformedExactly, FormedJudged, FormedVerdicts}
+use Rattle.verdict.specs.Judged.{isMalformed, found, Judged, loose, blackToWhite, handshake, sound}
+use Rattle.verdict.specs.Findings.{Found, malformed, formed, findingOf, FormedBounded, FoundExactly, MalformedJudged, FormedJudged, FormedVerdicts}
 use Rattle.verdict.proofs.Verdicts.{judged-holds, judged-only, verdicts-exactly}
 
 -- ---- a process: the collector, a mutator, nobody
@@ -140,9 +140,9 @@ module _ (s : State) where
   -- the verdict of a well-formed state is not 4
   below-four : {f : Finding} → Judged s f → f .verdict ≡ isMalformed → ⊥
   below-four (loose l) e = omega arith
-  below-four (black a l) e = omega arith
-  below-four (table a b l) e = omega arith
-  below-four (clean a b l) e = omega arith
+  below-four (blackToWhite a l) e = omega arith
+  below-four (handshake a b l) e = omega arith
+  below-four (sound a b l) e = omega arith
 
   four-only : {f : Finding} → Found s f → (f .verdict ≡ isMalformed) ↔ (WellFormed s → ⊥)
   four-only (malformed n) = (λ e. n, λ x. refl)
@@ -151,8 +151,8 @@ module _ (s : State) where
 pub found-exactly : FoundExactly
 found-exactly s f = (λ e. rw e (found-holds s), found-only s)
 
-pub malformed-exactly : MalformedExactly
-malformed-exactly s = four-only s (found-holds s)
+pub malformed-judged : MalformedJudged
+malformed-judged s = four-only s (found-holds s)
 
 pub formed-judged : FormedJudged
 unfolding findingOf

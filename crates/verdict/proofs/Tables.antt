@@ -11,7 +11,6 @@ use native.Mathlib.Omega.{arith}
 use borrow.Author.Tests.{eqb-true, not-true}
 use lib.Dec.{eqb}
 use Rattle.base.specs.Pick.{pick}
-use Rattle.base.specs.Every.{_and_}
 use Rattle.base.proofs.Everies.{and-both}
 use Rattle.cells.specs.Sets.{Member}
 use Rattle.cells.proofs.Bools.{split, not-both}

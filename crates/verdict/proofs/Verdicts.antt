@@ -23,7 +23,7 @@ use Rattle.reach.proofs.Reaches.{held-reached-exactly, reached-below}
 use Rattle.verdict.specs.declared.Finding.{Finding}
 use Rattle.verdict.specs.Colours.{BlackToWhite, blackToWhiteOf}
 use Rattle.verdict.specs.Table.{Broken, brokenOf}
-use Rattle.verdict.specs.Judged.{isClean, isBlack, isTable, found, Loose, None, Least, Judged, loose, black, table, clean, looseOf, leastOf, judgedOf}
+use Rattle.verdict.specs.Judged.{isSound, isBlackToWhite, isHandshake, found, Loose, None, Least, Judged, loose, blackToWhite, handshake, sound, looseOf, leastOf, judgedOf}
 use Rattle.verdict.specs.Statements.{Bounded, LooseExactly, JudgedExactly, Verdicts, VerdictsExactly}
 use Rattle.verdict.proofs.Colourings.{black-to-white-exactly}
 use Rattle.verdict.proofs.Tables.{broken-exactly}
@@ -96,14 +96,14 @@ module _ (s : State) (w : Bounded s) where
   judged-holds = one (split (isNone (looseOf s)))
     where
       three : None (Loose s) → None (BlackToWhite s) → (isNone (brokenOf s) ≡ true) ⊎ (isNone (brokenOf s) ≡ false)
-          → Judged s (pick (isNone (brokenOf s)) (found isClean 0) (leastOf isTable (brokenOf s)))
-      three l b (inl e) = rw e (clean l b (empty-none (brokenOf s) (Broken s) broken-set e))
-      three l b (inr e) = rw e (table l b (first-least (brokenOf s) (Broken s) broken-set e))
+          → Judged s (pick (isNone (brokenOf s)) (found isSound 0) (leastOf isHandshake (brokenOf s)))
+      three l b (inl e) = rw e (sound l b (empty-none (brokenOf s) (Broken s) broken-set e))
+      three l b (inr e) = rw e (handshake l b (first-least (brokenOf s) (Broken s) broken-set e))
 
       two : None (Loose s) → (isNone (blackToWhiteOf s) ≡ true) ⊎ (isNone (blackToWhiteOf s) ≡ false)
-          → Judged s (pick (isNone (blackToWhiteOf s)) (pick (isNone (brokenOf s)) (found isClean 0) (leastOf isTable (brokenOf s))) (leastOf isBlack (blackToWhiteOf s)))
+          → Judged s (pick (isNone (blackToWhiteOf s)) (pick (isNone (brokenOf s)) (found isSound 0) (leastOf isHandshake (brokenOf s))) (leastOf isBlackToWhite (blackToWhiteOf s)))
       two l (inl e) = rw e (three l (empty-none (blackToWhiteOf s) (BlackToWhite s) black-set e) (split (isNone (brokenOf s))))
-      two l (inr e) = rw e (black l (first-least (blackToWhiteOf s) (BlackToWhite s) black-set e))
+      two l (inr e) = rw e (blackToWhite l (first-least (blackToWhiteOf s) (BlackToWhite s) black-set e))
 
       one : (isNone (looseOf s) ≡ true) ⊎ (isNone (looseOf s) ≡ false) → Judged s (judgedOf s)
       one (inl e) = rw e (two (empty-none (looseOf s) (Loose s) loose-set e) (split (isNone (blackToWhiteOf s))))
@@ -114,20 +114,20 @@ module _ (s : State) (w : Bounded s) where
   unfolding judgedOf
   judged-only (loose {c = c} l) =
       rw (least-some (looseOf s) (Loose s) loose-set c l, least-first (looseOf s) (Loose s) loose-set c l)
-  judged-only (black {c = c} n l) =
+  judged-only (blackToWhite {c = c} n l) =
       rw (
         none-empty (looseOf s) (Loose s) loose-set n,
         least-some (blackToWhiteOf s) (BlackToWhite s) black-set c l,
         least-first (blackToWhiteOf s) (BlackToWhite s) black-set c l,
       )
-  judged-only (table {p = p} n b l) =
+  judged-only (handshake {p = p} n b l) =
       rw (
         none-empty (looseOf s) (Loose s) loose-set n,
         none-empty (blackToWhiteOf s) (BlackToWhite s) black-set b,
         least-some (brokenOf s) (Broken s) broken-set p l,
         least-first (brokenOf s) (Broken s) broken-set p l,
       )
-  judged-only (clean n b t) =
+  judged-only (sound n b t) =
       rw (
         none-empty (looseOf s) (Loose s) loose-set n,
         none-empty (blackToWhiteOf s) (BlackToWhite s) black-set b,
@@ -142,42 +142,42 @@ verdicts-of : {s : State} {f : Finding} → Judged s f → Verdicts s f
 verdicts-of (loose {c = c} l) = record {
   loose = (λ e. (c, l .such), λ x. refl);
   loose-least = λ e. l;
-  black = (λ e. absurd (omega arith), λ x. absurd (x .0 c (l .such)));
-  black-least = λ e. absurd (omega arith);
-  table = (λ e. absurd (omega arith), λ x. absurd (x .0 c (l .such)));
-  table-least = λ e. absurd (omega arith);
-  clean = (λ e. absurd (omega arith), λ x. absurd (x .0 c (l .such)));
-  clean-number = λ e. absurd (omega arith);
+  blackToWhite = (λ e. absurd (omega arith), λ x. absurd (x .0 c (l .such)));
+  blackToWhite-least = λ e. absurd (omega arith);
+  handshake = (λ e. absurd (omega arith), λ x. absurd (x .0 c (l .such)));
+  handshake-least = λ e. absurd (omega arith);
+  sound = (λ e. absurd (omega arith), λ x. absurd (x .0 c (l .such)));
+  sound-number = λ e. absurd (omega arith);
 }
-verdicts-of (black {c = c} n l) = record {
+verdicts-of (blackToWhite {c = c} n l) = record {
   loose = (λ e. absurd (omega arith), λ x. absurd (n (x .0) (x .1)));
   loose-least = λ e. absurd (omega arith);
-  black = (λ e. (n, (c, l .such)), λ x. refl);
-  black-least = λ e. l;
-  table = (λ e. absurd (omega arith), λ x. absurd (x .1 c (l .such)));
-  table-least = λ e. absurd (omega arith);
-  clean = (λ e. absurd (omega arith), λ x. absurd (x .1 c (l .such)));
-  clean-number = λ e. absurd (omega arith);
+  blackToWhite = (λ e. (n, (c, l .such)), λ x. refl);
+  blackToWhite-least = λ e. l;
+  handshake = (λ e. absurd (omega arith), λ x. absurd (x .1 c (l .such)));
+  handshake-least = λ e. absurd (omega arith);
+  sound = (λ e. absurd (omega arith), λ x. absurd (x .1 c (l .such)));
+  sound-number = λ e. absurd (omega arith);
 }
-verdicts-of (table {p = p} n b l) = record {
+verdicts-of (handshake {p = p} n b l) = record {
   loose = (λ e. absurd (omega arith), λ x. absurd (n (x .0) (x .1)));
   loose-least = λ e. absurd (omega arith);
-  black = (λ e. absurd (omega arith), λ x. absurd (b (x .1 .0) (x .1 .1)));
-  black-least = λ e. absurd (omega arith);
-  table = (λ e. (n, b, (p, l .such)), λ x. refl);
-  table-least = λ e. l;
-  clean = (λ e. absurd (omega arith), λ x. absurd (x .2 p (l .such)));
-  clean-number = λ e. absurd (omega arith);
+  blackToWhite = (λ e. absurd (omega arith), λ x. absurd (b (x .1 .0) (x .1 .1)));
+  blackToWhite-least = λ e. absurd (omega arith);
+  handshake = (λ e. (n, b, (p, l .such)), λ x. refl);
+  handshake-least = λ e. l;
+  sound = (λ e. absurd (omega arith), λ x. absurd (x .2 p (l .such)));
+  sound-number = λ e. absurd (omega arith);
 }
-verdicts-of (clean n b t) = record {
+verdicts-of (sound n b t) = record {
   loose = (λ e. absurd (omega arith), λ x. absurd (n (x .0) (x .1)));
   loose-least = λ e. absurd (omega arith);
-  black = (λ e. absurd (omega arith), λ x. absurd (b (x .1 .0) (x .1 .1)));
-  black-least = λ e. absurd (omega arith);
-  table = (λ e. absurd (omega arith), λ x. absurd (t (x .2 .0) (x .2 .1)));
-  table-least = λ e. absurd (omega arith);
-  clean = (λ e. (n, b, t), λ x. refl);
-  clean-number = λ e. refl;
+  blackToWhite = (λ e. absurd (omega arith), λ x. absurd (b (x .1 .0) (x .1 .1)));
+  blackToWhite-least = λ e. absurd (omega arith);
+  handshake = (λ e. absurd (omega arith), λ x. absurd (t (x .2 .0) (x .2 .1)));
+  handshake-least = λ e. absurd (omega arith);
+  sound = (λ e. (n, b, t), λ x. refl);
+  sound-number = λ e. refl;
 }
 
 pub verdicts-exactly : VerdictsExactly

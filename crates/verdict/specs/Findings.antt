@@ -27,8 +27,8 @@ abbrev pub FoundExactly : Type 0
 FoundExactly = (s : State) (f : Finding) → (f ≡ findingOf s) ↔ Found s f
 
 -- verdict 4 is given exactly if the state is malformed
-abbrev pub MalformedExactly : Type 0
-MalformedExactly = (s : State) → (findingOf s .verdict ≡ isMalformed) ↔ (WellFormed s → ⊥)
+abbrev pub MalformedJudged : Type 0
+MalformedJudged = (s : State) → (findingOf s .verdict ≡ isMalformed) ↔ (WellFormed s → ⊥)
 
 -- the finding of a well-formed state is the one that is made without looking for that
 abbrev pub FormedJudged : Type 0

@@ -13,17 +13,17 @@ use Rattle.verdict.specs.Colours.{BlackToWhite, blackToWhiteOf}
 use Rattle.verdict.specs.Table.{Broken, brokenOf}
 
 -- the verdicts' numbers
-abbrev pub isClean : ℕ
-isClean = 0
+abbrev pub isSound : ℕ
+isSound = 0
 
 abbrev pub isLoose : ℕ
 isLoose = 1
 
-abbrev pub isBlack : ℕ
-isBlack = 2
+abbrev pub isBlackToWhite : ℕ
+isBlackToWhite = 2
 
-abbrev pub isTable : ℕ
-isTable = 3
+abbrev pub isHandshake : ℕ
+isHandshake = 3
 
 abbrev pub isMalformed : ℕ
 isMalformed = 4
@@ -51,9 +51,9 @@ pub record Least (P : ℕ → Type 0) (n : ℕ) : Type 0 where
 -- (3); 0 and 4 carry the number 0."
 pub data Judged (s : State) : Finding → Type 0 where
   loose : {c : ℕ} → Least (Loose s) c → Judged s (found isLoose c)
-  black : {c : ℕ} → None (Loose s) → Least (BlackToWhite s) c → Judged s (found isBlack c)
-  table : {p : ℕ} → None (Loose s) → None (BlackToWhite s) → Least (Broken s) p → Judged s (found isTable p)
-  clean : None (Loose s) → None (BlackToWhite s) → None (Broken s) → Judged s (found isClean 0)
+  blackToWhite : {c : ℕ} → None (Loose s) → Least (BlackToWhite s) c → Judged s (found isBlackToWhite c)
+  handshake : {p : ℕ} → None (Loose s) → None (BlackToWhite s) → Least (Broken s) p → Judged s (found isHandshake p)
+  sound : None (Loose s) → None (BlackToWhite s) → None (Broken s) → Judged s (found isSound 0)
 
 -- ---- the same, computed: the set of what breaks each verdict, and its least number
 unfoldable pub looseOf : State → ℕ
@@ -66,6 +66,6 @@ unfoldable pub judgedOf : State → Finding
 judgedOf s =
     pick (isNone (looseOf s))
     (pick (isNone (blackToWhiteOf s))
-    (pick (isNone (brokenOf s)) (found isClean 0) (leastOf isTable (brokenOf s)))
-    (leastOf isBlack (blackToWhiteOf s)))
+    (pick (isNone (brokenOf s)) (found isSound 0) (leastOf isHandshake (brokenOf s)))
+    (leastOf isBlackToWhite (blackToWhiteOf s)))
     (leastOf isLoose (looseOf s))

@@ -14,7 +14,7 @@ use Rattle.reach.specs.Statements.{Within}
 use Rattle.verdict.specs.declared.Finding.{Finding}
 use Rattle.verdict.specs.Colours.{White, Grey, Black, BlackToWhite, whiteOf, greysOf, blackOf, blackToWhiteOf}
 use Rattle.verdict.specs.Table.{Right, Broken, rightOf, brokenOf}
-use Rattle.verdict.specs.Judged.{isClean, isLoose, isBlack, isTable, Loose, None, Some, Least, Judged, looseOf, judgedOf}
+use Rattle.verdict.specs.Judged.{isSound, isLoose, isBlackToWhite, isHandshake, Loose, None, Some, Least, Judged, looseOf, judgedOf}
 
 -- the part of well-formed that the verdicts lean on: nothing names a cell above N, and at most `maxMutators` mutators
 pub record Bounded (s : State) : Type 0 where
@@ -53,12 +53,12 @@ JudgedExactly = (s : State) → Bounded s → (f : Finding) → (f ≡ judgedOf 
 pub record Verdicts (s : State) (f : Finding) : Type 0 where
   pub loose : (f .verdict ≡ isLoose) ↔ Some (Loose s)
   pub loose-least : f .verdict ≡ isLoose → Least (Loose s) (f .number)
-  pub black : (f .verdict ≡ isBlack) ↔ (None (Loose s) × Some (BlackToWhite s))
-  pub black-least : f .verdict ≡ isBlack → Least (BlackToWhite s) (f .number)
-  pub table : (f .verdict ≡ isTable) ↔ (None (Loose s) × None (BlackToWhite s) × Some (Broken s))
-  pub table-least : f .verdict ≡ isTable → Least (Broken s) (f .number)
-  pub clean : (f .verdict ≡ isClean) ↔ (None (Loose s) × None (BlackToWhite s) × None (Broken s))
-  pub clean-number : f .verdict ≡ isClean → f .number ≡ 0
+  pub blackToWhite : (f .verdict ≡ isBlackToWhite) ↔ (None (Loose s) × Some (BlackToWhite s))
+  pub blackToWhite-least : f .verdict ≡ isBlackToWhite → Least (BlackToWhite s) (f .number)
+  pub handshake : (f .verdict ≡ isHandshake) ↔ (None (Loose s) × None (BlackToWhite s) × Some (Broken s))
+  pub handshake-least : f .verdict ≡ isHandshake → Least (Broken s) (f .number)
+  pub sound : (f .verdict ≡ isSound) ↔ (None (Loose s) × None (BlackToWhite s) × None (Broken s))
+  pub sound-number : f .verdict ≡ isSound → f .number ≡ 0
 
 abbrev pub VerdictsExactly : Type 0
 VerdictsExactly = (s : State) → Bounded s → Verdicts s (judgedOf s)

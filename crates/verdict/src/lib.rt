@@ -17,13 +17,13 @@ pub struct Finding {
 
 // Document 01's numbers.
 impl Finding {
-    pub const CLEAN: u8 = 0;
+    pub const SOUND: u8 = 0;
 
     pub const LOOSE: u8 = 1;
 
-    pub const BLACK: u8 = 2;
+    pub const BLACK_TO_WHITE: u8 = 2;
 
-    pub const TABLE: u8 = 3;
+    pub const HANDSHAKE: u8 = 3;
 
     pub const MALFORMED: u8 = 4;
 }
@@ -68,14 +68,14 @@ pub fn judged(s: State) -> Finding
     }
     let black = colours::black_to_white(s);
     if !cells::is_empty(black) {
-        return least(Finding::BLACK, black);
+        return least(Finding::BLACK_TO_WHITE, black);
     }
     let broken = table::broken(s);
     if !cells::is_empty(broken) {
-        return least(Finding::TABLE, broken);
+        return least(Finding::HANDSHAKE, broken);
     }
     Finding {
-        verdict: Finding::CLEAN,
+        verdict: Finding::SOUND,
         number: 0,
     }
 }

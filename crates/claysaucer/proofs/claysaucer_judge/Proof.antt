@@ -1,4 +1,4 @@
--- `cbench::claysaucer_judge` meets its contract: what it packs is the outcome of the log.
+-- `claysaucer::claysaucer_judge` meets its contract: what it packs is the outcome of the log.
 use borrow.Author.Needs.{needs}
 use Rattle.claysaucer.proofs.claysaucer_judge.Statement.{statement}
 use Rattle.claysaucer.proofs.claysaucer_judge.Tie as tie

@@ -1,4 +1,4 @@
--- `cbench::packed` meets its contract: nothing wraps, and the sum is the definition's.
+-- `claysaucer::packed` meets its contract: nothing wraps, and the sum is the definition's.
 use mathlib.Core.Path.{refl}
 use borrow.Author.Needs.{needs}
 use Rattle.claysaucer.proofs.packed.Statement.{statement}

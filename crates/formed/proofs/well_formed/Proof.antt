@@ -1,4 +1,4 @@
--- `fits::well_formed` meets its contract.
+-- `formed::well_formed` meets its contract.
 use borrow.Author.Needs.{needs}
 use Rattle.base.proofs.Picks.{picks}
 use Rattle.formed.specs.WellFormed.{wellFormedOf}

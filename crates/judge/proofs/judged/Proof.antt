@@ -4,10 +4,6 @@ use lib.ListN.{length-take}
 use borrow.Author.Needs.{needs}
 use Rattle.judge.proofs.judged.Statement.{statement}
 use Rattle.judge.proofs.judged.Tie as tie
-use Rattle.judge.proofs.judged.Reads as reads
-use Rattle.judge.proofs.judged.Lts as lts
-use Rattle.judge.proofs.tell.Reads as tell-reads
-use Rattle.runlog.proofs.judge.Reads as judge-reads
 
 -- src/main.rt:53:28
 slice-aggregate-judge : tie.Need-slice-aggregate-judge

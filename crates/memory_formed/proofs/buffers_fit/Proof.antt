@@ -1,4 +1,4 @@
--- `sound::buffers_fit` meets its contract: after p turns of the loop the buffers of the processes below p fit.
+-- `memory_formed::buffers_fit` meets its contract: after p turns of the loop the buffers of the processes below p fit.
 -- Assumes nothing.
 use mathlib.Core.Bool.{true}
 use mathlib.Core.Path.{_≡_, refl}

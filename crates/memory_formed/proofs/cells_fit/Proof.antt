@@ -1,4 +1,4 @@
--- `sound::cells_fit` meets its contract: after i turns of the loop the cells 1 to i fit. Assumes nothing.
+-- `memory_formed::cells_fit` meets its contract: after i turns of the loop the cells 1 to i fit. Assumes nothing.
 use mathlib.Core.Bool.{true}
 use mathlib.Core.Path.{_≡_, refl}
 use Prim.Native.Nat.{_≤_, _-_}

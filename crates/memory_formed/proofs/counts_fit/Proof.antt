@@ -1,4 +1,4 @@
--- `sound::counts_fit` meets its contract. Assumes nothing.
+-- `memory_formed::counts_fit` meets its contract. Assumes nothing.
 use borrow.Author.Needs.{needs}
 use Rattle.base.proofs.Picks.{picks}
 use Rattle.memory_formed.specs.WellFormed.{countsFitOf}

@@ -1,16 +1,16 @@
--- `sound::well_formed` meets its contract: the arrays have the lengths of their types. Assumes nothing.
+-- `memory_formed::well_formed` meets its contract: the arrays have the lengths of their types. Assumes nothing.
 use mathlib.Core.Path.{_≡_}
 use lib.ListN.{length}
 use borrow.Author.Needs.{needs}
 use borrow.Author.Tests.{eq-eqb}
 use Rattle.base.proofs.Lists.{carried}
 use Rattle.memory.specs.Memories.{maxCells, maxProcesses}
-use Rattle.memory_formed.specs.WellFormed.{sizedOf, wellFormedOf}
+use Rattle.memory_formed.specs.WellFormed.{sizedOf, memoryFormedOf}
 use Rattle.memory_formed.proofs.well_formed.Statement.{statement}
 use Rattle.memory_formed.proofs.well_formed.Tie as tie
 
 returns : tie.Need-returns
-unfolding wellFormedOf sizedOf
+unfolding memoryFormedOf sizedOf
 returns c =
     let m = c .before .args .m in
     let x : length (m .marks) ≡ maxCells = search (needs, carried) in

@@ -3,7 +3,7 @@ use mathlib.Core.Path.{_∙_, ap}
 use borrow.Author.Needs.{needs}
 use Rattle.base.proofs.Picks.{when-not, when-not-not}
 use Rattle.cells.specs.Sets.{isNone}
-use Rattle.verdict.specs.Judged.{isLoose, isBlack, isTable, leastOf, judgedOf}
+use Rattle.verdict.specs.Judged.{isLoose, isBlackToWhite, isHandshake, leastOf, judgedOf}
 use Rattle.verdict.proofs.judged.Statement.{statement}
 use Rattle.verdict.proofs.judged.Tie as tie
 
@@ -21,7 +21,7 @@ returns-2 c =
     let b = e .before .black-to-white .ensures in
     let f = e .before .before in
     when-not-not _ _ _ _ _ _ (f .before .is-empty .ensures ∙ ap isNone (f .before .before .loose .ensures)) (f .if1 .left)
-    (when-not _ _ _ _ _ _ (e .is-empty2 .ensures ∙ ap isNone b) (c .before .if2 .taken) (c .least2 .ensures ∙ ap (leastOf isBlack) b))
+    (when-not _ _ _ _ _ _ (e .is-empty2 .ensures ∙ ap isNone b) (c .before .if2 .taken) (c .least2 .ensures ∙ ap (leastOf isBlackToWhite) b))
 
 returns-3 : tie.Need-returns-3
 unfolding judgedOf
@@ -32,7 +32,7 @@ returns-3 c =
     let g = f .before .before .before in
     when-not-not _ _ _ _ _ _ (g .before .is-empty .ensures ∙ ap isNone (g .before .before .loose .ensures)) (g .if1 .left)
     (when-not-not _ _ _ _ _ _ (f .before .is-empty2 .ensures ∙ ap isNone (f .before .before .black-to-white .ensures)) (f .if2 .left)
-    (when-not _ _ _ _ _ _ (e .is-empty3 .ensures ∙ ap isNone b) (c .before .if3 .taken) (c .least3 .ensures ∙ ap (leastOf isTable) b)))
+    (when-not _ _ _ _ _ _ (e .is-empty3 .ensures ∙ ap isNone b) (c .before .if3 .taken) (c .least3 .ensures ∙ ap (leastOf isHandshake) b)))
 
 returns-4 : tie.Need-returns-4
 unfolding judgedOf

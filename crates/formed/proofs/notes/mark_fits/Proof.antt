@@ -1,4 +1,4 @@
--- `fits::notes::mark_fits` meets its contract.
+-- `formed::notes::mark_fits` meets its contract.
 use borrow.Author.Needs.{needs}
 use Rattle.base.proofs.Picks.{picks}
 use Rattle.formed.specs.WellFormed.{markFitsOf}

@@ -1,4 +1,4 @@
--- `fits::notes::no_mark` meets its contract.
+-- `formed::notes::no_mark` meets its contract.
 use borrow.Author.Needs.{needs}
 use Rattle.base.proofs.Picks.{picks}
 use Rattle.formed.specs.WellFormed.{noMarkOf}

@@ -1,4 +1,4 @@
--- `fits::notes::no_store` meets its contract.
+-- `formed::notes::no_store` meets its contract.
 use borrow.Author.Needs.{needs}
 use Rattle.base.proofs.Picks.{picks}
 use Rattle.formed.specs.WellFormed.{noStoreOf}

@@ -1,4 +1,4 @@
--- `fits::notes::notes_fit` meets its contract.
+-- `formed::notes::notes_fit` meets its contract.
 use borrow.Author.Needs.{needs}
 use Rattle.base.proofs.Picks.{picks}
 use Rattle.formed.specs.WellFormed.{notesFitOf}

@@ -1,4 +1,4 @@
--- `fits::processes::no_part` meets its contract.
+-- `formed::processes::no_part` meets its contract.
 use borrow.Author.Needs.{needs}
 use Rattle.base.proofs.Picks.{picks}
 use Rattle.formed.specs.WellFormed.{noPartOf}

@@ -1,4 +1,4 @@
--- `fits::processes::process_fits` meets its contract.
+-- `formed::processes::process_fits` meets its contract.
 use borrow.Author.Needs.{needs}
 use Rattle.base.proofs.Picks.{picks}
 use Rattle.formed.specs.WellFormed.{processFitsOf}

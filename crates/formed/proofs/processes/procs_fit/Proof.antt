@@ -1,4 +1,4 @@
--- `fits::processes::procs_fit` meets its contract: after p turns of the loop the first p processes fit.
+-- `formed::processes::procs_fit` meets its contract: after p turns of the loop the first p processes fit.
 use mathlib.Core.Bool.{true}
 use mathlib.Core.Path.{_≡_, refl}
 use Prim.Native.Nat.{_≤_, _-_}

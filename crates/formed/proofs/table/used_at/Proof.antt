@@ -1,4 +1,4 @@
--- `fits::table::used_at` meets its contract: past the table nothing is in use.
+-- `formed::table::used_at` meets its contract: past the table nothing is in use.
 use mathlib.Core.Path.{refl}
 use borrow.Author.Needs.{needs}
 use Rattle.base.proofs.Lists.{beyond}

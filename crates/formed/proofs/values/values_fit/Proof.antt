@@ -1,4 +1,4 @@
--- `fits::values::values_fit` meets its contract.
+-- `formed::values::values_fit` meets its contract.
 use borrow.Author.Needs.{needs}
 use Rattle.base.proofs.Picks.{picks}
 use Rattle.formed.specs.WellFormed.{valuesFitOf}

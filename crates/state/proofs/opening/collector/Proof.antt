@@ -1,6 +1,5 @@
 use mathlib.Core.Path.{refl}
 use borrow.Author.Needs.{needs}
-use Rattle.base.proofs.Picks.{picks}
 use Rattle.state.specs.Openings.{openCollector}
 use Rattle.state.proofs.opening.collector.Statement.{statement}
 use Rattle.state.proofs.opening.collector.Tie as tie

@@ -1,6 +1,5 @@
 use mathlib.Core.Path.{refl}
 use borrow.Author.Needs.{needs}
-use Rattle.base.proofs.Picks.{picks}
 use Rattle.state.specs.Openings.{openMutator}
 use Rattle.state.proofs.opening.mutator.Statement.{statement}
 use Rattle.state.proofs.opening.mutator.Tie as tie
