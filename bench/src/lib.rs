@@ -38,6 +38,7 @@ mod random;
 mod refused;
 mod state;
 mod step;
+pub mod timing;
 mod verdict;
 
 pub use choice::Choice;

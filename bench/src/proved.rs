@@ -1,22 +1,48 @@
 //! The proved judge, through the static library that `rt staticlib claysaucer`
 //! makes. Nothing of it is used by the independent judge.
 
-use crate::log::Outcome;
+use crate::log::{judge as rust_judge, Outcome};
+use crate::timing::Judge;
+
+/// The judges that are timed beside each other, the Rust judge last; the
+/// earlier one where it is linked.
+pub const JUDGES: &[(&str, Judge)] = &[
+    ("proved", judge),
+    #[cfg(feature = "earlier")]
+    ("earlier", earlier),
+    ("Rust", rust_judge),
+];
+
+/// As `include/claysaucer.h` declares it: a slice is its pointer and its
+/// length.
+type Exported = unsafe extern "C" fn(log: *const u8, length: usize) -> u64;
 
 #[allow(unsafe_code)]
 extern "C" {
-    /// As `include/claysaucer.h` declares it: a slice is its pointer and its
-    /// length.
     fn claysaucer_judge(log: *const u8, length: usize) -> u64;
+
+    /// The same of an earlier commit, renamed by `bench/earlier`.
+    #[cfg(feature = "earlier")]
+    fn earlier_judge(log: *const u8, length: usize) -> u64;
 }
 
 /// Runs a log on the proved judge.
 pub fn judge(log: &[u8]) -> Outcome {
+    call(claysaucer_judge, log)
+}
+
+/// Runs a log on the proved judge of an earlier commit.
+#[cfg(feature = "earlier")]
+pub fn earlier(log: &[u8]) -> Outcome {
+    call(earlier_judge, log)
+}
+
+fn call(judge: Exported, log: &[u8]) -> Outcome {
     // SAFETY: a slice's pointer is not null, also where it is empty, and its
     // bytes can be read and are not written while it is lent. The function
     // has no other condition.
     #[allow(unsafe_code)]
-    let packed = unsafe { claysaucer_judge(log.as_ptr(), log.len()) };
+    let packed = unsafe { judge(log.as_ptr(), log.len()) };
     unpacked(packed)
 }
 

@@ -3,10 +3,10 @@
 //!
 //! `replay [SEED] [REPETITIONS]`
 
-use claysaucer_bench::{judge, proved, Coverage, Event, Generator, Outcome, RECORD_LENGTH};
-use std::hint::black_box;
+use claysaucer_bench::proved::JUDGES;
+use claysaucer_bench::timing::{in_turns, micros};
+use claysaucer_bench::{judge, Coverage, Event, Generator, RECORD_LENGTH};
 use std::process::ExitCode;
-use std::time::{Duration, Instant};
 
 const SEED: u64 = 1;
 const REPETITIONS: usize = 200;
@@ -21,38 +21,6 @@ const EVENTS: [Event; 4] = [
     Event::MarkRaceLost,
     Event::BufferFull,
 ];
-
-/// The times of one judge.
-struct Times(Vec<Duration>);
-
-impl Times {
-    fn median(&self) -> Duration {
-        let mut sorted = self.0.clone();
-        sorted.sort();
-        sorted[sorted.len() / 2]
-    }
-
-    fn least(&self) -> Duration {
-        self.0.iter().copied().min().unwrap_or_default()
-    }
-}
-
-/// The time of one call.
-fn timed(judge: fn(&[u8]) -> Outcome, log: &[u8]) -> Duration {
-    let start = Instant::now();
-    black_box(judge(black_box(log)));
-    start.elapsed()
-}
-
-/// Both judges on one log, one after the other, so many times.
-fn in_turns(log: &[u8], repetitions: usize) -> (Times, Times) {
-    let mut times = (Times(Vec::new()), Times(Vec::new()));
-    for _ in 0..repetitions {
-        times.0 .0.push(timed(proved::judge, log));
-        times.1 .0.push(timed(judge, log));
-    }
-    times
-}
 
 /// A log of all the records that has each of the events, and how often it has
 /// them.
@@ -77,22 +45,36 @@ fn events_of(log: &[u8]) -> Option<String> {
     told.map(|told| told.join(", "))
 }
 
-fn micros(time: Duration) -> f64 {
-    time.as_secs_f64() * 1e6
+/// The columns: the times of each judge, and of each its ratio to the Rust
+/// judge, which is the last.
+fn head() {
+    print!("| records |");
+    for (name, _) in JUDGES {
+        print!(" {name}, median us | least | ns a record |");
+    }
+    for (name, _) in &JUDGES[..JUDGES.len() - 1] {
+        print!(" {name} to Rust, of medians | of least |");
+    }
+    println!("\n|{}", "---:|".repeat(5 * JUDGES.len() - 1));
 }
 
 /// One row of the table: a log's first records.
 fn row(log: &[u8], records: usize, repetitions: usize) {
-    let (proved, rust) = in_turns(log, repetitions);
-    let (median, rust_median) = (micros(proved.median()), micros(rust.median()));
-    let (least, rust_least) = (micros(proved.least()), micros(rust.least()));
-    println!(
-        "| {records} | {median:.1} | {least:.1} | {rust_median:.1} | {rust_least:.1} | {:.1} | {:.1} | {:.2} | {:.2} |",
-        median * 1e3 / records as f64,
-        rust_median * 1e3 / records as f64,
-        median / rust_median,
-        least / rust_least,
-    );
+    let times = in_turns(JUDGES, log, repetitions, 1);
+    let times: Vec<_> = times
+        .iter()
+        .map(|own| (micros(own.median()), micros(own.least())))
+        .collect();
+    print!("| {records} |");
+    for (median, least) in &times {
+        let each = median * 1e3 / records as f64;
+        print!(" {median:.1} | {least:.1} | {each:.1} |");
+    }
+    let (rust_median, rust_least) = times[times.len() - 1];
+    for (median, least) in &times[..times.len() - 1] {
+        print!(" {:.2} | {:.2} |", median / rust_median, least / rust_least);
+    }
+    println!();
 }
 
 /// The table of one size.
@@ -101,13 +83,14 @@ fn replay(generator: &mut Generator, size: (u8, u8), repetitions: usize) {
     let (log, events) = busy_log(generator, size, longest);
     let outcome = judge(&log);
     assert_eq!(outcome.steps as usize, longest, "every record is taken");
-    assert_eq!(outcome, proved::judge(&log), "the judges agree");
+    for (name, other) in JUDGES {
+        assert_eq!(outcome, other(&log), "{name} agrees");
+    }
     println!(
         "\nN = {}, M = {}. In {longest} records: {events}.\n",
         size.0, size.1
     );
-    println!("| records | proved, median us | least | Rust, median us | least | proved, ns a record | Rust, ns a record | ratio of medians | of least |");
-    println!("|---:|---:|---:|---:|---:|---:|---:|---:|---:|");
+    head();
     let header = log.len() - longest * RECORD_LENGTH;
     for records in RECORDS {
         row(

@@ -4,7 +4,7 @@
 --                                    can hold
 --     follow-grows, follow-met, follow-has, pass-grows, pass-met, pass-has       what a step and a pass keep, add and
 --     see
---     Going, going-start, going-next, going-end, going-more       what the loop knows, turn by turn
+--     Going, going-start, going-next, going-end       what is known pass after pass
 --     met-once                       only one set holds exactly the cells met
 --     reached-met                    the computed set does
 use mathlib.Core.Path.{_≡_, refl, sym, ap, _∙_}
@@ -22,7 +22,7 @@ use Rattle.cells.proofs.Members.{member-pos, in-add, add-same, add-keeps, add-a
 use Rattle.cells.proofs.Subsets.{sub-same, sub-of-minus, inter-of-sub}
 use Rattle.cells.proofs.Algebra.{inter-comm}
 use Rattle.cells.proofs.Belows.{add-lt, minus-le}
-use Rattle.cells.proofs.Counts.{sub-number, count-max, count-minus, count-zero}
+use Rattle.cells.proofs.Counts.{count-max, count-minus, count-zero}
 use Rattle.memory.specs.declared.Memory.{Memory}
 use Rattle.memory.specs.Memories.{usedOf, fieldOf}
 use Rattle.reach.specs.Reach.{Names, first, second, counted, followOf, passOf, passesOf, mostPasses, reachedOf}
@@ -32,7 +32,7 @@ pub counted-more : {A : Type 0} {r t : A} (f : A → ℕ → A) (a : A) (i : ℕ
 counted-more f a i e q = q ∙ rw (e, add-one)
 
 -- ---- one number added: what is new is that number, and fits
-pub in-add-fits : (s x y : ℕ) → Member (addOf s x) y → (Member s y) ⊎ ((x ≡ y) × (y ≤ maxSet))
+in-add-fits : (s x y : ℕ) → Member (addOf s x) y → (Member s y) ⊎ ((x ≡ y) × (y ≤ maxSet))
 in-add-fits s x y p = go (decLt maxSet x)
   where
     old : (Member s y) ⊎ (x ≡ y) → x ≤ maxSet → (Member s y) ⊎ ((x ≡ y) × (y ≤ maxSet))
@@ -74,14 +74,21 @@ module _ (m : Memory) where
       go (inl p) (inr q) = off (λ a b. not-both b q) (rw (p, q))
       go (inr p) u = off (λ a b. not-both a p) (rw p)
 
-  follow-grows : (s c : ℕ) → Sub s (followOf m s c)
+  pub follow-on : (s c : ℕ) → Member s c → usedOf m c ≡ true → followOf m s c ≡ addOf (addOf s (fieldOf m c 0)) (fieldOf m c 1)
+  follow-on s c p u = go (followed s c)
+    where
+      go : Followed s c → followOf m s c ≡ addOf (addOf s (fieldOf m c 0)) (fieldOf m c 1)
+      go (on q w e) = e
+      go (off n e) = absurd (n p u)
+
+  pub follow-grows : (s c : ℕ) → Sub s (followOf m s c)
   follow-grows s c x p = go (followed s c)
     where
       go : Followed s c → Member (followOf m s c) x
       go (on q u e) = rw e (add-keeps (addOf s (fieldOf m c 0)) (fieldOf m c 1) x (add-keeps s (fieldOf m c 0) x p))
       go (off n e) = rw e p
 
-  follow-has : (s c d : ℕ) → Member s c → usedOf m c ≡ true → Names m c d → d ≤ maxSet → Member (followOf m s c) d
+  pub follow-has : (s c d : ℕ) → Member s c → usedOf m c ≡ true → Names m c d → d ≤ maxSet → Member (followOf m s c) d
   follow-has s c d p u k l = go k (followed s c)
     where
       go : Names m c d → Followed s c → Member (followOf m s c) d
@@ -89,7 +96,7 @@ module _ (m : Memory) where
       go (first a z) (on q w e) = rw e (add-keeps (addOf s (fieldOf m c 0)) (fieldOf m c 1) d (rw a (add-same s d z l)))
       go (second a z) (on q w e) = rw (e, a) (add-same (addOf s (fieldOf m c 0)) d z l)
 
-  follow-met : (start s c : ℕ) → c ≤ m .cells → ((x : ℕ) → Member s x → Met m start x) → (x : ℕ) → Member (followOf m s c) x → Met m start x
+  pub follow-met : (start s c : ℕ) → c ≤ m .cells → ((x : ℕ) → Member s x → Met m start x) → (x : ℕ) → Member (followOf m s c) x → Met m start x
   follow-met start s c b h x p = go (followed s c)
     where
       go : Followed s c → Met m start x
@@ -107,7 +114,7 @@ module _ (m : Memory) where
           one (inl r) = two (in-add-fits s (fieldOf m c 0) x r)
           one (inr r) = led (h c q) b u (second (r .0) pos) (r .1)
 
-  follow-lt : (s c : ℕ) → s < 2 ^ maxSet → followOf m s c < 2 ^ maxSet
+  pub follow-lt : (s c : ℕ) → s < 2 ^ maxSet → followOf m s c < 2 ^ maxSet
   follow-lt s c h = go (followed s c)
     where
       go : Followed s c → followOf m s c < 2 ^ maxSet
@@ -152,18 +159,18 @@ module _ (m : Memory) where
   unfolding passOf
   pass-lt s h = cells-lt (m .cells) s h
 
-  -- ---- the loop: what is seen holds start and is all met; next is a pass further
-  pub record Going (start seen next : ℕ) : Type 0 where
-    pub fits : seen < 2 ^ maxSet
-    pub is : next ≡ passOf m seen
-    pub from : Sub start seen
-    pub met : (x : ℕ) → Member seen x → Met m start x
+  -- ---- pass after pass: what is seen holds start and is all met; next is a pass further
+  record Going (start seen next : ℕ) : Type 0 where
+    fits : seen < 2 ^ maxSet
+    is : next ≡ passOf m seen
+    from : Sub start seen
+    met : (x : ℕ) → Member seen x → Met m start x
 
-  pub going-start : (start next : ℕ) → start < 2 ^ maxSet → next ≡ passOf m start → Going start start next
+  going-start : (start next : ℕ) → start < 2 ^ maxSet → next ≡ passOf m start → Going start start next
   going-start start next h e = record { fits = h; is = e; from = λ x p. p; met = λ x p. begun p }
 
   module _ (start seen next : ℕ) (g : Going start seen next) where
-    pub going-next : (next′ : ℕ) → next′ ≡ passOf m next → Going start next next′
+    going-next : (next′ : ℕ) → next′ ≡ passOf m next → Going start next next′
     going-next next′ e = record {
       fits = rw (g .is) (pass-lt seen (g .fits));
       is = e;
@@ -171,13 +178,10 @@ module _ (m : Memory) where
       met = λ x p. pass-met start seen (g .met) x (rw (g .is) at p);
     }
 
-    pub going-more : (next ≡ seen → ⊥) → seen < next
-    going-more n = omega (arith, sub-number seen next (λ x p. rw (g .is) (pass-grows seen x p)))
-
     count-more : (next ≡ seen → ⊥) → countOf seen < countOf next
     count-more n = count-less seen next (λ x p. rw (g .is) (pass-grows seen x p)) (rw (g .is) (pass-lt seen (g .fits))) n
 
-    pub going-end : next ≡ seen → (x : ℕ) → Member seen x ↔ Met m start x
+    going-end : next ≡ seen → (x : ℕ) → Member seen x ↔ Met m start x
     going-end e x = (g .met x, back)
       where
         back : {y : ℕ} → Met m start y → Member seen y

@@ -1,4 +1,5 @@
 pub mod Folds
 pub mod Closures
+pub mod Walks
 pub mod Helds
 pub mod Reaches

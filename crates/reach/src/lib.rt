@@ -3,45 +3,46 @@ pub mod holds;
 
 use memory::Memory;
 ghost use mathlib.Core.Path.{_≡_};
-ghost use Rattle.reach.specs.Reach.{followOf, passOf, reachedOf};
+ghost use Rattle.cells.specs.Sets.{interOf, addOf, fullOf};
+ghost use Rattle.memory.specs.Memories.{fieldOf};
+ghost use Rattle.reach.specs.Reach.{reachedOf};
 
-// The cells seen, with those that the fields of the cell c name, if c is seen and occupied.
-fn follow(m: Memory, seen: u64, c: u8) -> u64
-    ensures { λ r. ⌜ r ≡ followOf m seen c ⌝ }
+// The numbers that both sets hold.
+fn both(s: u64, t: u64) -> u64
+    ensures { λ r. ⌜ r ≡ interOf s t ⌝ }
 {
-    if !cells::member(seen, c) {
-        return seen;
-    }
-    if !m.is_used(c) {
-        return seen;
-    }
+    s & t
+}
+
+// The cells that reach goes through: 1 to N, occupied.
+fn walked(m: Memory) -> u64
+    ensures { λ r. ⌜ r ≡ interOf (m .used) (fullOf (m .cells)) ⌝ }
+{
+    both(m.used, cells::full(m.cells))
+}
+
+// The cells seen, with those that the fields of the cell c name.
+fn follow(m: Memory, seen: u64, c: u8) -> u64
+    ensures { λ r. ⌜ r ≡ addOf (addOf seen (fieldOf m c 0)) (fieldOf m c 1) ⌝ }
+{
     let first = cells::add(seen, m.field(c, 0));
     cells::add(first, m.field(c, 1))
 }
 
-// One pass over the cells 1 to N.
-fn pass(m: Memory, start: u64) -> u64
-    ensures { λ r. ⌜ r ≡ passOf m start ⌝ }
-{
-    let n = m.cells;
-    let mut seen = start;
-    let mut c = 0;
-    while c < n {
-        c += 1;
-        seen = follow(m, seen, c);
-    }
-    seen
-}
-
-// The cells reached from those of start: pass after pass, until one sees nothing new.
+// The cells reached from those of start. Pending is what is seen and not yet gone through; its lowest cell is taken,
+// and the cells that its fields name are seen, free ones too.
+// All that is seen is reached, and what a cell gone through names is seen; each turn leaves one cell fewer.
 pub fn reached(m: Memory, start: u64) -> u64
     ensures { λ r. ⌜ r ≡ reachedOf m start ⌝ }
 {
     let mut seen = start;
-    let mut next = pass(m, start);
-    while next != seen {
-        seen = next;
-        next = pass(m, seen);
+    let mut left = walked(m);
+    let mut pending = both(seen, left);
+    while !cells::is_empty(pending) {
+        let c = cells::first(pending);
+        left = cells::remove(left, c);
+        seen = follow(m, seen, c);
+        pending = both(seen, left);
     }
     seen
 }
