@@ -14,7 +14,7 @@
 #include <string.h>
 
 /* The marked table has twelve cases, and case 12 has two logs; and two more. */
-#define EXAMPLES 15
+#define EXAMPLES 16
 /* One byte more than a log may have. */
 #define ROOM (CLAYSAUCER_LOG_LIMIT + 1)
 

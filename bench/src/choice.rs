@@ -38,6 +38,16 @@ impl Choice {
         }
     }
 
+    /// The collector's read of field f in row 7. It names x at the first read
+    /// of a cell; at the next x is 0.
+    pub fn field_read(x: u8, f: u8) -> Choice {
+        Choice {
+            x,
+            f,
+            ..Choice::own(0)
+        }
+    }
+
     /// An operation of a mutator at top.
     pub fn operation(process: u8, operation: u8, x: u8, f: u8, y: u8) -> Choice {
         Choice {
@@ -58,6 +68,18 @@ impl Choice {
     pub(crate) fn only_x(self) -> Result<u8, Refusal> {
         offered((self.operation, self.f, self.y) == (0, 0, 0))?;
         Ok(self.x)
+    }
+
+    /// Refusal 4 for a place that uses f alone.
+    pub(crate) fn only_f(self) -> Result<u8, Refusal> {
+        offered((self.operation, self.x, self.y) == (0, 0, 0))?;
+        Ok(self.f)
+    }
+
+    /// Refusal 4 for a place that uses x and f.
+    pub(crate) fn only_x_and_f(self) -> Result<(u8, u8), Refusal> {
+        offered((self.operation, self.y) == (0, 0))?;
+        Ok((self.x, self.f))
     }
 }
 

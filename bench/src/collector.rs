@@ -1,10 +1,11 @@
-//! "Collector": the rows of its table and the steps of a round.
+//! "Collector": the rows of its table and the steps of a round. Row 7 is as
+//! R-4 of document 02 mends it.
 
 use crate::choice::{offered, Choice};
 use crate::marking::mark_step;
 use crate::number::Refusal;
 use crate::place::{CollectorPlace, MarkStage, RoundStage};
-use crate::state::{bit, set_of, HandshakeType, Phase, State, Store};
+use crate::state::{bit, field_bit, set_of, HandshakeType, Phase, State, Store, BOTH_FIELDS};
 use CollectorPlace::*;
 use HandshakeType::{NoOp, Roots, Work};
 
@@ -28,10 +29,9 @@ pub fn own_step(state: &mut State, c: Choice) -> Result<(), Refusal> {
         }
         Row6Round(stage) => round(state, c, (Roots, stage), Row6Round, Row6Take),
         Row6Take | Row8Take => take_list(state, c),
-        Row7Read0 => read_field_0(state, c),
-        Row7Mark0(stage) => mark_child(state, c, stage, Row7Mark0, Row7Read1),
-        Row7Read1 => read_field_1(state, c),
-        Row7Mark1(stage) => mark_child(state, c, stage, Row7Mark1, Row7Drop),
+        Row7FirstRead => first_read(state, c),
+        Row7Mark(stage) => mark_child(state, c, stage),
+        Row7NextRead => next_read(state, c),
         Row7Drop => drop_scanned(state, c),
         Row8Round(stage) => round(state, c, (Work, stage), Row8Round, Row8Take),
         Row9WriteSweep => start_sweep(state, c),
@@ -173,52 +173,59 @@ fn take_list(state: &mut State, c: Choice) -> Result<(), Refusal> {
     state.collector.own.list = taken;
     state.collector.place = match taken {
         0 => Row9WriteSweep,
-        _ => Row7Read0,
+        _ => Row7FirstRead,
     };
     Ok(())
 }
 
-/// Row 7: "x from its list, named at the first read: read field 0".
-fn read_field_0(state: &mut State, c: Choice) -> Result<(), Refusal> {
-    let x = c.only_x()?;
+/// Row 7: "x from its list, named at the first read". No field of it has been
+/// scanned then.
+fn first_read(state: &mut State, c: Choice) -> Result<(), Refusal> {
+    let (x, f) = c.only_x_and_f()?;
     offered(state.collector.own.list & bit(x) != 0)?;
-    let child = state.read_field(COLLECTOR, x, 0)?;
-    state.collector.scanned = x;
-    state.collector.child = child;
-    state.collector.place = match child {
-        0 => Row7Read1,
-        _ => Row7Mark0(MarkStage::Look),
-    };
-    Ok(())
+    scan(state, x, f, BOTH_FIELDS)
 }
 
-/// Row 7: "read field 1".
-fn read_field_1(state: &mut State, c: Choice) -> Result<(), Refusal> {
-    c.bare()?;
-    let child = state.read_field(COLLECTOR, state.collector.scanned, 1)?;
+/// Row 7: a further read, of the x noted at the first.
+fn next_read(state: &mut State, c: Choice) -> Result<(), Refusal> {
+    let f = c.only_f()?;
+    let (x, unscanned) = (state.collector.scanned, state.collector.unscanned);
+    scan(state, x, f, unscanned)
+}
+
+/// R-4: "at each field read in row 7 the choice's f names a field not yet
+/// scanned, and x keeps its use at the first. Refusal 4 is then given for a
+/// field already scanned." Null is not marked.
+fn scan(state: &mut State, x: u8, f: u8, unscanned: u8) -> Result<(), Refusal> {
+    offered(unscanned & field_bit(f) != 0)?;
+    let child = state.read_field(COLLECTOR, x, f)?;
+    state.collector.scanned = x;
+    state.collector.unscanned = unscanned & !field_bit(f);
     state.collector.child = child;
     state.collector.place = match child {
-        0 => Row7Drop,
-        _ => Row7Mark1(MarkStage::Look),
+        0 => after_field(state),
+        _ => Row7Mark(MarkStage::Look),
     };
     Ok(())
 }
 
 /// Row 7: "mark it".
-fn mark_child(
-    state: &mut State,
-    c: Choice,
-    stage: MarkStage,
-    here: fn(MarkStage) -> CollectorPlace,
-    next: CollectorPlace,
-) -> Result<(), Refusal> {
+fn mark_child(state: &mut State, c: Choice, stage: MarkStage) -> Result<(), Refusal> {
     c.bare()?;
     let further = mark_step(state, COLLECTOR, state.collector.child, stage)?;
     if further.is_none() {
         state.collector.child = 0;
     }
-    state.collector.place = further.map_or(next, here);
+    state.collector.place = further.map_or(after_field(state), Row7Mark);
     Ok(())
+}
+
+/// A field is done: the next one is read, or x is dropped when none is left.
+fn after_field(state: &State) -> CollectorPlace {
+    match state.collector.unscanned {
+        0 => Row7Drop,
+        _ => Row7NextRead,
+    }
 }
 
 /// Row 7: "drop x (one step); until empty". Then row 8.
@@ -229,7 +236,7 @@ fn drop_scanned(state: &mut State, c: Choice) -> Result<(), Refusal> {
     collector.own.list &= !bit(scanned);
     collector.place = match collector.own.list {
         0 => Row8Round(RoundStage::Fence),
-        _ => Row7Read0,
+        _ => Row7FirstRead,
     };
     Ok(())
 }

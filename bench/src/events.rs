@@ -60,6 +60,8 @@ events! {
     Row6Full => "row 6 take, not empty",
     Row8Empty => "row 8 take, empty",
     Row8Full => "row 8 take, not empty",
+    Field0First => "row 7 scans both fields, field 0 first",
+    Field1First => "row 7 scans both fields, field 1 first",
     ScanGrew => "row 7 list grown by its own marks",
     SweepKept => "sweep keeps a cell",
     SweepPassed => "sweep passes a free cell",
@@ -72,6 +74,9 @@ events! {
     BadArgumentInside => "refusal 4 of a mutator inside an operation",
     BadArgumentCollector => "refusal 4 of the collector, no argument used",
     BadArgumentLeft => "refusal 4, not among those left",
+    FieldScanned => "refusal 4, field already scanned",
+    FieldAboveFirst => "refusal 4, field above 1 at row 7's first read",
+    FieldAboveNext => "refusal 4, field above 1 at row 7's next read",
     BadArgumentCommit => "refusal 4 of a commit",
     CollectorNothingPending => "refusal 5 of the collector",
     MutatorNothingPending => "refusal 5 of a mutator",
@@ -239,6 +244,10 @@ impl Record<'_> {
         match before.place {
             CollectorPlace::Row6Take => events.push(if empty { Row6Empty } else { Row6Full }),
             CollectorPlace::Row8Take => events.push(if empty { Row8Empty } else { Row8Full }),
+            CollectorPlace::Row7NextRead => events.push(match self.choice.f {
+                0 => Field1First,
+                _ => Field0First,
+            }),
             CollectorPlace::Row10Look => self.sweep_look(events),
             CollectorPlace::Row10Free => events.push(CellFreed),
             CollectorPlace::Row11WriteIdle => events.push(Collected),
@@ -283,11 +292,26 @@ impl Record<'_> {
             Some(MutatorPlace::Top) => BadArgumentTop,
             Some(MutatorPlace::RootsMark(MarkStage::Look)) => BadArgumentLeft,
             Some(_) => BadArgumentInside,
-            None => match self.before.collector.place {
-                CollectorPlace::Row7Read0 | CollectorPlace::Row10Look => BadArgumentLeft,
-                place if place.round_stage() >= Some(RoundStage::Raise) => BadArgumentLeft,
-                _ => BadArgumentCollector,
-            },
+            None => self.bad_collector_argument(),
+        }
+    }
+
+    fn bad_collector_argument(&self) -> Event {
+        use CollectorPlace::{Row10Look, Row7FirstRead, Row7NextRead};
+        let Choice { x, f, .. } = self.choice;
+        let collector = &self.before.collector;
+        let x_fits = match collector.place {
+            Row7FirstRead => collector.own.list & bit(x) != 0,
+            _ => x == 0,
+        };
+        let f_alone_bad = x_fits && self.choice == Choice::field_read(x, f);
+        match collector.place {
+            Row7FirstRead if f_alone_bad => FieldAboveFirst,
+            Row7NextRead if f_alone_bad && f > 1 => FieldAboveNext,
+            Row7NextRead if f_alone_bad => FieldScanned,
+            Row7FirstRead | Row7NextRead | Row10Look => BadArgumentLeft,
+            place if place.round_stage() >= Some(RoundStage::Raise) => BadArgumentLeft,
+            _ => BadArgumentCollector,
         }
     }
 

@@ -1,8 +1,8 @@
-//! An independent judge of document 01: the non-moving Schism collector
-//! with mutators on x86-TSO.
+//! An independent judge of document 01, with the change R-4 of document 02:
+//! the non-moving Schism collector with mutators on x86-TSO.
 //!
 //! It is the second opinion for a proved judge written elsewhere and shares
-//! nothing with it. It is written from the rules document alone.
+//! nothing with it. It is written from these two documents alone.
 //!
 //! [`judge`] runs a whole log. [`step`] answers one choice on any state, also
 //! a malformed one. [`verdict`] weighs a state. [`Generator`] makes logs and
@@ -55,8 +55,8 @@ pub use marked::{marked_cases, MarkedCase};
 pub use place::{CollectorPlace, MarkStage, MutatorPlace, RoundStage};
 pub use random::Random;
 pub use state::{
-    bit, members, set_of, Cell, Collector, HandshakePhase, HandshakeType, Mutator, Phase, Process,
-    State, Store, System, BUFFER_ROOM, CELLS, MUTATORS,
+    bit, field_bit, members, set_of, Cell, Collector, HandshakePhase, HandshakeType, Mutator,
+    Phase, Process, State, Store, System, BOTH_FIELDS, BUFFER_ROOM, CELLS, MUTATORS,
 };
 pub use step::{apply, step};
 pub use verdict::verdict;

@@ -6,7 +6,8 @@
 
 use crate::place::{CollectorPlace, MarkStage, MutatorPlace, RoundStage};
 use crate::state::{
-    set_of, Cell, Collector, Mutator, Process, State, Store, BUFFER_ROOM, CELLS, MUTATORS,
+    set_of, Cell, Collector, Mutator, Process, State, Store, BOTH_FIELDS, BUFFER_ROOM, CELLS,
+    MUTATORS,
 };
 
 /// Whether the state is malformed.
@@ -117,6 +118,8 @@ fn collector_fits(collector: &Collector, bounds: Bounds) -> bool {
         && u32::from(collector.awaited) & !set_of(bounds.m) == 0
         && (collector.awaited == 0 || awaits)
         && bounds.cell_if(place.in_scan(), collector.scanned)
+        && collector.unscanned & !BOTH_FIELDS == 0
+        && (collector.unscanned == 0 || place.keeps_fields())
         && bounds.cell_if(place.mark_stage().is_some(), collector.child)
         && bounds.set_if(sweeps, collector.unswept)
         && bounds.cell_if(place == Row10Free, collector.doomed)

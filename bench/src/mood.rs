@@ -3,7 +3,7 @@
 use crate::choice::Choice;
 use crate::place::{CollectorPlace, MarkStage, MutatorPlace, RoundStage};
 use crate::random::Random;
-use crate::state::{bit, members, set_of, Mutator, State};
+use crate::state::{bit, members, set_of, Collector, Mutator, State};
 
 /// Chances are in percent, the operations' weights are any numbers.
 #[derive(Clone, Debug)]
@@ -130,7 +130,8 @@ impl Mood {
     fn collector_step(&self, state: &State, random: &mut Random) -> Choice {
         let collector = &state.collector;
         let left = match collector.place {
-            CollectorPlace::Row7Read0 => collector.own.list,
+            CollectorPlace::Row7FirstRead => return first_read(collector, random),
+            CollectorPlace::Row7NextRead => return next_read(collector),
             CollectorPlace::Row10Look => collector.unswept,
             place => match place.round_stage() {
                 Some(RoundStage::Raise) => u32::from(collector.awaited),
@@ -194,6 +195,17 @@ impl Mood {
         }
         4
     }
+}
+
+/// The first read of a cell: either field of any cell on the list.
+fn first_read(collector: &Collector, random: &mut Random) -> Choice {
+    let x = random.member(collector.own.list);
+    Choice::field_read(x, random.below(2) as u8)
+}
+
+/// The next read: the field that is left.
+fn next_read(collector: &Collector) -> Choice {
+    Choice::field_read(0, collector.unscanned.trailing_zeros() as u8)
 }
 
 /// The y of a store: mostly a root, else null.

@@ -111,10 +111,9 @@ pub enum CollectorPlace {
     Row5Round(RoundStage),
     Row6Round(RoundStage),
     Row6Take,
-    Row7Read0,
-    Row7Mark0(MarkStage),
-    Row7Read1,
-    Row7Mark1(MarkStage),
+    Row7FirstRead,
+    Row7Mark(MarkStage),
+    Row7NextRead,
     Row7Drop,
     Row8Round(RoundStage),
     Row8Take,
@@ -135,7 +134,7 @@ impl CollectorPlace {
     /// The step of a mark this place is, if it is one.
     pub fn mark_stage(self) -> Option<MarkStage> {
         match self {
-            Self::Row7Mark0(stage) | Self::Row7Mark1(stage) => Some(stage),
+            Self::Row7Mark(stage) => Some(stage),
             _ => None,
         }
     }
@@ -155,14 +154,15 @@ impl CollectorPlace {
 
     /// Whether row 7 has named its x and has not dropped it yet.
     pub fn in_scan(self) -> bool {
-        matches!(
-            self,
-            Self::Row7Mark0(_) | Self::Row7Read1 | Self::Row7Mark1(_) | Self::Row7Drop
-        )
+        self.keeps_fields() || self == Self::Row7Drop
     }
 
-    /// Every place, each round with its four stages, each marking site with
-    /// its seven.
+    /// Whether row 7 keeps which fields of its x are not yet scanned.
+    pub fn keeps_fields(self) -> bool {
+        matches!(self, Self::Row7Mark(_) | Self::Row7NextRead)
+    }
+
+    /// Every place, each round with its four stages, the mark with its seven.
     pub fn all() -> Vec<CollectorPlace> {
         let rounds = [
             Self::Row1Round,
@@ -172,7 +172,6 @@ impl CollectorPlace {
             Self::Row6Round,
             Self::Row8Round,
         ];
-        let marks = [Self::Row7Mark0, Self::Row7Mark1];
         let mut places = vec![
             Self::Row2Read,
             Self::Row2Write,
@@ -180,8 +179,8 @@ impl CollectorPlace {
             Self::Row5WriteMark,
             Self::Row5WriteSense,
             Self::Row6Take,
-            Self::Row7Read0,
-            Self::Row7Read1,
+            Self::Row7FirstRead,
+            Self::Row7NextRead,
             Self::Row7Drop,
             Self::Row8Take,
             Self::Row9WriteSweep,
@@ -190,7 +189,7 @@ impl CollectorPlace {
             Self::Row11WriteIdle,
         ];
         places.extend(rounds.iter().flat_map(|site| RoundStage::ALL.map(site)));
-        places.extend(marks.iter().flat_map(|site| MarkStage::ALL.map(site)));
+        places.extend(MarkStage::ALL.map(Self::Row7Mark));
         places.sort();
         places
     }

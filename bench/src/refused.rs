@@ -4,9 +4,10 @@ use crate::choice::Choice;
 use crate::generate::{Generator, Walk};
 use crate::mood::Mood;
 use crate::number::{
-    BLOCKED, FLAG_DOWN, FULL, NONE_PENDING, NO_KIND, NO_PROCESS, OCCUPIED, PENDING, TAKEN,
+    BLOCKED, FLAG_DOWN, FULL, NONE_PENDING, NOT_OFFERED, NO_KIND, NO_PROCESS, OCCUPIED, PENDING,
+    TAKEN,
 };
-use crate::place::CollectorPlace;
+use crate::place::CollectorPlace::{self, Row4WriteInit, Row7FirstRead, Row7NextRead};
 use crate::state::State;
 
 /// What a refused record is aimed at: a number, and for some numbers the
@@ -19,12 +20,13 @@ struct Aim {
 
 impl Aim {
     /// Whether this choice, refused by this number, is what was aimed at.
-    /// Rare are the write of a mark into a full buffer, and the collector
-    /// blocked.
+    /// Rare are the write of a mark into a full buffer, the collector
+    /// blocked, and row 7's read of a field above 1 or already scanned.
     fn hit(self, state: &State, choice: Choice, number: u8) -> bool {
         let rare = match number {
             BLOCKED => choice.process == 0,
             FULL => state.mark_stage(choice.process).is_some(),
+            NOT_OFFERED => matches!(state.collector.place, Row7FirstRead | Row7NextRead),
             _ => true,
         };
         number == self.number && (rare || !self.rare)
@@ -33,8 +35,8 @@ impl Aim {
     /// Where the collector is when the rare case may come.
     fn place(self) -> Option<CollectorPlace> {
         match self.number {
-            BLOCKED if self.rare => Some(CollectorPlace::Row7Read0),
-            FULL if self.rare => Some(CollectorPlace::Row4WriteInit),
+            BLOCKED | NOT_OFFERED if self.rare => Some(Row7FirstRead),
+            FULL if self.rare => Some(Row4WriteInit),
             _ => None,
         }
     }
@@ -80,7 +82,7 @@ impl Generator {
     fn seek(&mut self, walk: &mut Walk, mood: &Mood, aim: Aim) -> Option<Choice> {
         for _ in 0..400 {
             for _ in 0..6 {
-                let choice = self.bad_choice(&walk.state, mood, aim.number);
+                let choice = self.bad_choice(&walk.state, mood, aim);
                 let number = walk.take(choice);
                 if number != TAKEN && aim.hit(&walk.state, choice, number) {
                     return Some(choice);
@@ -93,11 +95,11 @@ impl Generator {
         None
     }
 
-    /// A choice that may well be refused by the wanted number.
-    fn bad_choice(&mut self, state: &State, mood: &Mood, wanted: u8) -> Choice {
+    /// A choice that may well be what is aimed at.
+    fn bad_choice(&mut self, state: &State, mood: &Mood, aim: Aim) -> Choice {
         let p = self.random.within(0, u32::from(state.m)) as u8;
         let own = mood.own_step(state, p, &mut self.random);
-        match wanted {
+        match aim.number {
             NO_PROCESS => Choice {
                 process: self.random.within(u32::from(state.m) + 1, 255) as u8,
                 ..own
@@ -115,6 +117,10 @@ impl Generator {
                 1 => Choice::operation(p, 0, self.small(state.n), 0, 0),
                 2 => Choice::operation(p, 4, 0, 0, 0),
                 _ => own,
+            },
+            NOT_OFFERED if aim.rare => Choice {
+                f: self.small(0),
+                ..mood.own_step(state, 0, &mut self.random)
             },
             _ => self.bad_argument(own, state.n),
         }

@@ -11,6 +11,9 @@ pub const MUTATORS: usize = 4;
 /// "a FIFO buffer of at most 8 pending stores".
 pub const BUFFER_ROOM: usize = 8;
 
+/// The set of a cell's two fields.
+pub const BOTH_FIELDS: u8 = 0b11;
+
 /// "A cell is free, or occupied with a mark bit and two fields."
 #[derive(Clone, Copy, Debug, Default, PartialEq, Eq)]
 pub struct Cell {
@@ -99,6 +102,8 @@ pub struct Collector {
     pub awaited: u8,
     /// Row 7's x.
     pub scanned: u8,
+    /// The fields of it not yet scanned, bit 0 for field 0.
+    pub unscanned: u8,
     /// The field value row 7 is marking.
     pub child: u8,
     /// Row 10's cells left.
@@ -265,6 +270,14 @@ pub fn set_of(count: u8) -> u32 {
 pub fn bit(r: u8) -> u32 {
     match r {
         1..=32 => 1 << (r - 1),
+        _ => 0,
+    }
+}
+
+/// The set of field f alone, bit 0 for field 0; empty if f is above 1.
+pub fn field_bit(f: u8) -> u8 {
+    match f {
+        0 | 1 => 1 << f,
         _ => 0,
     }
 }

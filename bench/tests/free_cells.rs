@@ -4,8 +4,8 @@
 mod common;
 
 use claysaucer_bench::number::{FREE, TAKEN};
-use claysaucer_bench::{step, Choice, CollectorPlace, MarkStage, Phase, State, Store};
-use common::{collector_marks, mutator_marks, next_choice, number, opening, FREE_CELL};
+use claysaucer_bench::{field_bit, step, Choice, CollectorPlace, MarkStage, Phase, State, Store};
+use common::{collector_marks, mutator_marks, next_choice, number, opening, scanning, FREE_CELL};
 
 const FREE_BIT: u32 = 1 << (FREE_CELL - 1);
 
@@ -59,12 +59,14 @@ fn the_mutators_field_reads() {
 #[test]
 fn the_collectors_field_reads() {
     let mut state = opening();
-    state.collector.place = CollectorPlace::Row7Read0;
+    state.collector.place = CollectorPlace::Row7FirstRead;
     state.collector.own.list = FREE_BIT;
-    assert_eq!(number(&state, Choice::naming(0, FREE_CELL)), FREE);
-    state.collector.place = CollectorPlace::Row7Read1;
-    state.collector.scanned = FREE_CELL;
-    assert_eq!(number(&state, Choice::own(0)), FREE);
+    for f in 0..=1 {
+        assert_eq!(number(&state, Choice::field_read(FREE_CELL, f)), FREE);
+        let mut next = scanning(CollectorPlace::Row7NextRead, field_bit(f));
+        next.collector.scanned = FREE_CELL;
+        assert_eq!(number(&next, Choice::field_read(0, f)), FREE);
+    }
 }
 
 #[test]

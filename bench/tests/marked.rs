@@ -64,8 +64,8 @@ fn expected_txt_agrees_with_the_judge() {
     let expected = fs::read_to_string(examples().join("expected.txt")).expect("expected.txt");
     assert_eq!(
         expected.lines().count(),
-        15,
-        "thirteen marked logs, and two more"
+        16,
+        "thirteen marked logs, and three more"
     );
     for told in expected.lines() {
         let (file, outcome) = told.split_once(": ").expect("FILE: line");

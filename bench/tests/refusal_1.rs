@@ -5,7 +5,7 @@ mod common;
 use claysaucer_bench::number::MALFORMED;
 use claysaucer_bench::{
     malformed, verdict, Choice, CollectorPlace, HandshakePhase, MarkStage, MutatorPlace,
-    RoundStage, State, Store,
+    RoundStage, State, Store, BOTH_FIELDS,
 };
 use common::{about_to_write, collector_marks, mutator_marks, number, opening, FREE_CELL};
 
@@ -123,10 +123,25 @@ fn sets_out_of_range() {
     let mut sweep = opening();
     sweep.collector.place = CollectorPlace::Row10Look;
     breaks("cells left", &sweep, |s| s.collector.unswept = 0b1000);
+    for place in CollectorPlace::all() {
+        if place.keeps_fields() {
+            fields_left(&collector_at(place));
+        }
+    }
     let mut round = opening();
     round.collector.place = CollectorPlace::Row1Round(RoundStage::Poll);
     breaks("mutators left", &round, |s| s.collector.awaited = 0b100);
     allows("mutators left", &round, |s| s.collector.awaited = 0b11);
+}
+
+/// None, one or both of the two fields are left, and no third.
+fn fields_left(state: &State) {
+    for unscanned in 0..=BOTH_FIELDS {
+        allows("fields left", state, |s| s.collector.unscanned = unscanned);
+    }
+    for unscanned in [0b100, 0b111, 1 << 7] {
+        breaks("fields left", state, |s| s.collector.unscanned = unscanned);
+    }
 }
 
 #[test]
@@ -301,6 +316,10 @@ fn collector_notes_out_of_use() {
         allows("noted fM", &state, |s| s.collector.own.sense = true);
         if !place.in_scan() {
             breaks("x", &state, |s| s.collector.scanned = 1);
+        }
+        if !place.keeps_fields() {
+            breaks("field 0 left", &state, |s| s.collector.unscanned = 1);
+            breaks("field 1 left", &state, |s| s.collector.unscanned = 2);
         }
         if place.mark_stage().is_none() {
             breaks("child", &state, |s| s.collector.child = 1);

@@ -3,9 +3,12 @@
 mod common;
 
 use claysaucer_bench::number::*;
-use claysaucer_bench::{step, Choice, CollectorPlace, MarkStage, MutatorPlace, State, Store};
+use claysaucer_bench::{
+    field_bit, step, Choice, CollectorPlace, MarkStage, MutatorPlace, State, Store,
+};
 use common::{
-    about_to_write, collector_marks, mutator_marks, next_choice, number, opening, FREE_CELL,
+    about_to_write, collector_marks, mutator_marks, next_choice, number, opening, scanning,
+    FREE_CELL,
 };
 
 const FENCE: u8 = 4;
@@ -99,6 +102,9 @@ fn arguments_before_blocked() {
     assert_eq!(number(&state, operation(2, FREE_CELL, 0, 0)), NOT_OFFERED);
     assert_eq!(number(&state, operation(3, 1, 2, 0)), NOT_OFFERED);
     assert_eq!(number(&state, operation(3, 1, 0, 0)), BLOCKED);
+    let state = locked(scanning(CollectorPlace::Row7NextRead, field_bit(1)), 2);
+    assert_eq!(number(&state, Choice::field_read(0, 0)), NOT_OFFERED);
+    assert_eq!(number(&state, Choice::field_read(0, 1)), BLOCKED);
 }
 
 #[test]
@@ -163,17 +169,18 @@ fn a_lock_step_needs_the_lock_free_even_of_oneself() {
 /// Each other read, commit and free while another holds the lock.
 #[test]
 fn reads_and_frees_are_blocked() {
-    use CollectorPlace::{Row10Free, Row10Look, Row2Read, Row7Read0, Row7Read1};
-    for place in [Row2Read, Row7Read0, Row7Read1, Row10Look, Row10Free] {
+    use CollectorPlace::{Row10Free, Row10Look, Row2Read, Row7FirstRead, Row7NextRead};
+    for place in [Row2Read, Row7FirstRead, Row7NextRead, Row10Look, Row10Free] {
         let mut state = locked(opening(), 1);
         state.collector.place = place;
         state.collector.own.list = 0b1;
         state.collector.scanned = u8::from(place.in_scan());
+        state.collector.unscanned = u8::from(place.keeps_fields());
         let sweeps = matches!(place, Row10Free | Row10Look);
         state.collector.unswept = if sweeps { 0b101 } else { 0 };
         state.collector.doomed = u8::from(place == Row10Free);
         let choices = match place {
-            Row7Read0 => vec![Choice::naming(0, 1)],
+            Row7FirstRead => vec![Choice::field_read(1, 0), Choice::field_read(1, 1)],
             Row10Look => vec![Choice::naming(0, 1), Choice::naming(0, FREE_CELL)],
             _ => vec![Choice::own(0)],
         };

@@ -283,7 +283,7 @@ fn a_take_replaces_the_collectors_list() {
         state.system.list = 0b10;
         let after = take(&state, Choice::own(0));
         assert_eq!((after.collector.own.list, after.system.list), (0b10, 0));
-        assert_eq!(after.collector.place, CollectorPlace::Row7Read0);
+        assert_eq!(after.collector.place, CollectorPlace::Row7FirstRead);
         state.system.list = 0;
         let after = take(&state, Choice::own(0));
         assert_eq!(after.collector.own.list, 0);

@@ -3,8 +3,8 @@
 use crate::places::{collector_place, mutator_place, Code};
 use crate::script::Act;
 use claysaucer_bench::{
-    Cell, Collector, HandshakePhase, MarkStage, Mutator, MutatorPlace, Process, RoundStage, State,
-    Store, BUFFER_ROOM,
+    field_bit, Cell, Collector, HandshakePhase, MarkStage, Mutator, MutatorPlace, Process,
+    RoundStage, State, Store, BUFFER_ROOM,
 };
 
 /// Three cells: 1, which names 2 in its field 0, and 2 are occupied, 3 is
@@ -59,6 +59,7 @@ impl Act {
             'X' => collector.doomed = self.v,
             'C' => collector.child = self.v,
             'L' if collector.place.round_stage().is_some() => collector.awaited = self.v,
+            'L' if collector.place.keeps_fields() => collector.unscanned = self.v,
             'L' => collector.unswept = u32::from(self.v),
             'W' => collector.own.list = u32::from(self.v),
             letter => panic!("no change of the collector has the letter {letter}"),
@@ -118,18 +119,22 @@ fn put_mutator(mutator: &mut Mutator, code: Code) {
 }
 
 /// The collector at that place, with notes that fit it: a round that awaits
-/// mutators 1 and 2; row 7 with cell 1 in hand, 1 and 2 on the list; row 10
-/// with cells 1 to 3 left, or 1 to free and the others left.
+/// mutators 1 and 2; row 7 with cell 1 in hand, field 1 of it left unless it
+/// is at its drop, 1 and 2 on the list; row 10 with cells 1 to 3 left, or 1 to
+/// free and the others left.
 fn put_collector(collector: &mut Collector, code: Code) {
-    use claysaucer_bench::CollectorPlace::{Row10Free, Row10Look, Row7Read0};
+    use claysaucer_bench::CollectorPlace::{Row10Free, Row10Look, Row7FirstRead};
     let place = collector_place(code).expect("a place of the collector");
     collector.place = place;
     if place.round_stage() >= Some(RoundStage::Raise) {
         collector.awaited = 0b11;
     }
-    if place == Row7Read0 || place.in_scan() {
+    if place == Row7FirstRead || place.in_scan() {
         collector.own.list = 0b11;
         collector.scanned = u8::from(place.in_scan());
+    }
+    if place.keeps_fields() {
+        collector.unscanned = field_bit(1);
     }
     if let Some(stage) = place.mark_stage() {
         collector.child = 2;

@@ -4,7 +4,7 @@
 
 use claysaucer_bench::{
     step, Choice, Collector, CollectorPlace, HandshakePhase, HandshakeType, MarkStage, Mutator,
-    MutatorPlace, Phase, Process, Random, RoundStage, State, Store,
+    MutatorPlace, Phase, Process, Random, RoundStage, State, Store, BOTH_FIELDS,
 };
 
 /// Three cells, 1 and 2 occupied and 3 free; two mutators, both with root 1,
@@ -36,18 +36,26 @@ pub fn mutator_marks(r: u8, stage: MarkStage) -> Vec<State> {
     vec![old, new, root]
 }
 
-/// The collector at the given stage of the mark of r, at both its sites.
+/// The collector at the given stage of the mark of r, with each set of fields
+/// left.
 pub fn collector_marks(r: u8, stage: MarkStage) -> Vec<State> {
-    let sites = [CollectorPlace::Row7Mark0, CollectorPlace::Row7Mark1];
-    let at = |site: fn(MarkStage) -> CollectorPlace| {
-        let mut state = opening();
-        state.collector.place = site(stage);
-        state.collector.scanned = 1;
-        state.collector.own.list = 1;
+    let with_left = |unscanned| {
+        let mut state = scanning(CollectorPlace::Row7Mark(stage), unscanned);
         state.collector.child = r;
         state
     };
-    sites.map(at).to_vec()
+    (0..=BOTH_FIELDS).map(with_left).collect()
+}
+
+/// The collector in row 7, past its first read of cell 1, with these fields
+/// left.
+pub fn scanning(place: CollectorPlace, unscanned: u8) -> State {
+    let mut state = opening();
+    state.collector.place = place;
+    state.collector.own.list = 1;
+    state.collector.scanned = 1;
+    state.collector.unscanned = unscanned;
+    state
 }
 
 /// Mutator 1 about to write field 0 of cell 1.
@@ -112,6 +120,11 @@ pub fn likely_choice(state: &State, random: &mut Random) -> Choice {
             }
         }
         4..=6 => Choice::naming(p, x),
+        7 => Choice {
+            x: random.pick(&[0, x]),
+            f: random.below(2) as u8,
+            ..Choice::own(p)
+        },
         _ => Choice::own(p),
     }
 }
@@ -163,6 +176,9 @@ fn random_collector(collector: &mut Collector, random: &mut Random) {
     }
     if place.in_scan() {
         collector.scanned = cell;
+    }
+    if place.keeps_fields() {
+        collector.unscanned = random.below(4) as u8;
     }
     if place.mark_stage().is_some() {
         collector.child = random.within(1, 3) as u8;
@@ -302,7 +318,7 @@ fn disturb_memory(state: &mut State, random: &mut Random) {
 
 fn disturb_collector(state: &mut State, random: &mut Random) {
     let collector = &mut state.collector;
-    match random.below(11) {
+    match random.below(12) {
         0 => collector.place = random.pick(&CollectorPlace::all()),
         1 => collector.awaited = small(random),
         2 => collector.scanned = small(random),
@@ -313,6 +329,7 @@ fn disturb_collector(state: &mut State, random: &mut Random) {
         7 => collector.own.sense ^= true,
         8 => collector.own.look ^= true,
         9 => collector.own.greying = small(random),
+        10 => collector.unscanned = small(random),
         _ => collector.own.buffer.push_back(store(random)),
     }
 }

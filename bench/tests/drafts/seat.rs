@@ -34,9 +34,9 @@ pub struct Part {
 impl Seat {
     /// At that place, with notes that fit it: a store of 2 in field 1 of cell
     /// 1, over the old value 3; an answer with the roots 1 and 3 left; row 7
-    /// with cell 1 in hand; row 10 with cells 1 to 3 left, or 1 to free and
-    /// the others left; a round that awaits mutators 1 and 2. Cell 3 is on
-    /// the list.
+    /// with cell 1 in hand, field 1 of it left unless it is at its drop; row
+    /// 10 with cells 1 to 3 left, or 1 to free and the others left; a round
+    /// that awaits mutators 1 and 2. Cell 3 is on the list.
     pub fn fitting(code: Code) -> Seat {
         let (place, stage) = code;
         let mut seat = Seat {
@@ -48,17 +48,18 @@ impl Seat {
         match place {
             1..=3 => (seat.x, seat.f, seat.y, seat.old) = (1, 1, 2, 3),
             7 => seat.left = 0b101,
-            23..=26 => seat.x = 1,
-            30 => seat.left = 0b111,
-            31 => (seat.x, seat.left) = (1, 0b110),
+            23 | 24 => (seat.x, seat.left) = (1, 0b10),
+            25 => seat.x = 1,
+            29 => seat.left = 0b111,
+            30 => (seat.x, seat.left) = (1, 0b110),
             _ => {}
         }
         match place {
             1 => seat.mark(0, 3),
             2 => seat.mark(0, 2),
             7 if stage == of_mark(MarkStage::Look) => seat.mark(0, 0),
-            7 | 23 | 25 => seat.mark(2, 2),
-            11 | 14 | 16 | 19 | 20 | 27 if stage >= of_round(RoundStage::Raise) => seat.left = 0b11,
+            7 | 23 => seat.mark(2, 2),
+            11 | 14 | 16 | 19 | 20 | 26 if stage >= of_round(RoundStage::Raise) => seat.left = 0b11,
             _ => {}
         }
         seat
@@ -135,6 +136,7 @@ impl Seat {
         }
         match place.round_stage() {
             Some(_) => collector.awaited = self.left as u8,
+            None if place.keeps_fields() => collector.unscanned = self.left as u8,
             None => collector.unswept = self.left,
         }
         Some(collector)

@@ -10,7 +10,7 @@ use Prim.Native.Nat.{ℕ}
 use Rattle.base.specs.Pick.{pick}
 use Rattle.state.specs.declared.RoundType.{RoundType}
 use Rattle.state.specs.declared.RoundType.the-variants as round
-use Rattle.state.specs.Codes.{top, storeMarkOld, storeMarkY, storeWrite, rootsMark, rootsFinish, row7Mark0, row7Read1, row7Mark1, row7Drop}
+use Rattle.state.specs.Codes.{top, storeMarkOld, storeMarkY, storeWrite, rootsMark, rootsFinish, row7Mark, row7Next, row7Drop}
 use Rattle.formed.specs.Fits.{amongOf, Among}
 use Rattle.model.specs.Rows.{Branch}
 use Rattle.claims.specs.Answering.{answerPlaces}
@@ -36,8 +36,8 @@ leads-passes Leads.write = passes storeMarkOld storeWrite refl refl refl
 leads-passes Leads.new = passes storeMarkOld storeMarkY refl refl refl
 leads-passes Leads.marked = passes storeMarkY storeWrite refl refl refl
 leads-passes Leads.roots = passes rootsMark rootsFinish refl refl refl
-leads-passes Leads.first = passes row7Mark0 row7Read1 refl refl refl
-leads-passes Leads.second = passes row7Mark1 row7Drop refl refl refl
+leads-passes Leads.fields = passes row7Mark row7Drop refl refl refl
+leads-passes Leads.field = passes row7Mark row7Next refl refl refl
 
 pub seat-passes : {a b : ℕ} → Seat a b → Passes a b
 seat-passes (Seat.stays e) = rw e (λ t h. h)

@@ -69,8 +69,7 @@ mark-types : {q : Process} {r : ℕ} → Marks q r → typesAt (q .place) (q .st
 mark-types (Marks.old e) = rw e refl
 mark-types (Marks.new e) = rw e refl
 mark-types (Marks.root e) = rw e refl
-mark-types (Marks.first e) = rw e refl
-mark-types (Marks.second e) = rw e refl
+mark-types (Marks.field e) = rw e refl
 
 module _ (s : State) (c : Choice) where
   turned : {q : Process} {t : State} → Collector s c 0 q t → Turn q t
@@ -90,11 +89,12 @@ module _ (s : State) (c : Choice) where
   turned (Collector.writes-alloc a b e) = Turn.other (at-types a refl)
   turned (Collector.takes a b h) = Turn.other (take-types a)
   turned (Collector.takes-none a b h) = Turn.other (take-types a)
-  turned (Collector.reads-first a b m e h) = Turn.other (at-types a refl)
-  turned (Collector.reads-first-null a b m e) = Turn.other (at-types a refl)
+  turned (Collector.reads-first a b e h) = Turn.other (at-types a refl)
+  turned (Collector.reads-first-null a b e) = Turn.other (at-types a refl)
   turned (Collector.marks b i e) = Turn.other (mark-types i)
-  turned (Collector.reads-second a b e h) = Turn.other (at-types a refl)
-  turned (Collector.reads-second-null a b e) = Turn.other (at-types a refl)
+  turned (Collector.reads-next a b e h) = Turn.other (at-types a refl)
+  turned (Collector.reads-next-null a b e n) = Turn.other (at-types a refl)
+  turned (Collector.reads-last-null a b e n) = Turn.other (at-types a refl)
   turned (Collector.drops a b h) = Turn.other (at-types a refl)
   turned (Collector.drops-last a b h) = Turn.other (at-types a refl)
   turned (Collector.writes-sweep a b e) = Turn.other (at-types a refl)
@@ -114,8 +114,7 @@ mark-place : {q : Process} {r : ℕ} → Marks q r → amongOf (q .place) finish
 mark-place (Marks.old e) = rw e refl
 mark-place (Marks.new e) = rw e refl
 mark-place (Marks.root e) = rw e refl
-mark-place (Marks.first e) = rw e refl
-mark-place (Marks.second e) = rw e refl
+mark-place (Marks.field e) = rw e refl
 
 module _ (s : State) (c : Choice) (p : ℕ) where
   owned : {q : Process} {t : State} → Mutator s c p q t → Own s p q t

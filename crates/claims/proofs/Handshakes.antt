@@ -216,8 +216,7 @@ module _ (s : State) (w : WellFormed s) where
     scanned t (Marks.old i) e v = absurd (let b = collector-within (w .collector) .0 in omega arith)
     scanned t (Marks.new i) e v = absurd (let b = collector-within (w .collector) .0 in omega arith)
     scanned t (Marks.root i) e v = absurd (let b = collector-within (w .collector) .0 in omega arith)
-    scanned t (Marks.first i) e v = rests t (scan-rests i refl (λ j. refl) (λ j. refl) (mark-seat e)) v
-    scanned t (Marks.second i) e v = rests t (scan-rests i refl (λ j. refl) (λ j. refl) (mark-seat e)) v
+    scanned t (Marks.field i) e v = rests t (scan-rests i (mark-seat e)) v
 
     collector-handshakes : {t : State} → Collector s c 0 (processOf s 0) t → Whole (mutatorsOf s) (s .system .kind) (s .system .phase) (s .procs) → Whole (mutatorsOf s) (t .system .kind) (t .system .phase) (t .procs)
     collector-handshakes (Collector.fences {k} r a b e) v = rests (at k typeStage (processOf s 0)) (rest _ a refl (early fenceStage r refl) (early typeStage r refl)) v
@@ -248,11 +247,12 @@ module _ (s : State) (w : WellFormed s) where
     collector-handshakes (Collector.writes-alloc a b e) v = rests _ (rest _ a refl refl refl) v
     collector-handshakes (Collector.takes a b h) v = rests _ (take-rests _ a refl refl) v
     collector-handshakes (Collector.takes-none a b h) v = rests _ (take-rests _ a refl refl) v
-    collector-handshakes (Collector.reads-first a b m e h) v = rests _ (rest _ a refl refl refl) v
-    collector-handshakes (Collector.reads-first-null a b m e) v = rests _ (rest _ a refl refl refl) v
+    collector-handshakes (Collector.reads-first a b e h) v = rests _ (rest _ a refl refl refl) v
+    collector-handshakes (Collector.reads-first-null a b e) v = rests _ (rest _ a refl refl refl) v
     collector-handshakes (Collector.marks b i {t = t} e) v = scanned t i e v
-    collector-handshakes (Collector.reads-second a b e h) v = rests _ (rest _ a refl refl refl) v
-    collector-handshakes (Collector.reads-second-null a b e) v = rests _ (rest _ a refl refl refl) v
+    collector-handshakes (Collector.reads-next a b e h) v = rests _ (rest _ a refl refl refl) v
+    collector-handshakes (Collector.reads-next-null a b e n) v = rests _ (rest _ a refl refl refl) v
+    collector-handshakes (Collector.reads-last-null a b e n) v = rests _ (rest _ a refl refl refl) v
     collector-handshakes (Collector.drops a b h) v = rests _ (rest _ a refl refl refl) v
     collector-handshakes (Collector.drops-last a b h) v = rests _ (rest _ a refl refl refl) v
     collector-handshakes (Collector.writes-sweep a b e) v = rests _ (rest _ a refl refl refl) v

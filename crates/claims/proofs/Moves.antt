@@ -101,8 +101,7 @@ pub marks-place : {q : Process} {r : ℕ} → Marks q r → markPlace (q .place)
 marks-place (Marks.old e) = rw e refl
 marks-place (Marks.new e) = rw e refl
 marks-place (Marks.root e) = rw e refl
-marks-place (Marks.first e) = rw e refl
-marks-place (Marks.second e) = rw e refl
+marks-place (Marks.field e) = rw e refl
 
 inside-site : (k j : ℕ) {b : Bool} → markPlace k ≡ true → insideAt storeMarkOld j ≡ b → insideAt k j ≡ b
 unfolding insideAt
@@ -135,8 +134,8 @@ next-out (Next.new e h) = refl
 next-out (Next.marked e) = refl
 next-out (Next.roots e h) = refl
 next-out (Next.root e h) = refl
-next-out (Next.first e) = refl
-next-out (Next.second e) = refl
+next-out (Next.fields e i) = refl
+next-out (Next.field e i) = refl
 
 round-out : {k j l : ℕ} {t : RoundType} (i : ℕ) → Round k t j l → insideAt k i ≡ false
 unfolding insideAt
@@ -229,11 +228,12 @@ module _ (s : State) (w : WellFormed s) (c : Choice) (q : Process) (f : Collecto
   collector-goes (Collector.writes-alloc a b {m} e) = went (withMemory s m) _ (write-out a refl _ refl (store.AllocSense (q .sense)) refl e)
   collector-goes (Collector.takes a b h) = went (withSystem s (withList (s .system) noCells)) _ (rest s w c 0 q _ (⊎-elim (λ i. out i refl) (λ i. out i refl) a) refl)
   collector-goes (Collector.takes-none a b h) = went (withSystem s (withList (s .system) noCells)) _ (rest s w c 0 q _ (⊎-elim (λ i. out i refl) (λ i. out i refl) a) refl)
-  collector-goes (Collector.reads-first a b m e h) = went s _ (rest s w c 0 q _ (out a refl) refl)
-  collector-goes (Collector.reads-first-null a b m e) = went s _ (rest s w c 0 q _ (out a refl) refl)
+  collector-goes (Collector.reads-first a b e h) = went s _ (rest s w c 0 q _ (out a refl) refl)
+  collector-goes (Collector.reads-first-null a b e) = went s _ (rest s w c 0 q _ (out a refl) refl)
   collector-goes (Collector.marks b i {m} e) = went (withMemory s m) _ (mark-goes i e)
-  collector-goes (Collector.reads-second a b e h) = went s _ (rest s w c 0 q _ (out a refl) refl)
-  collector-goes (Collector.reads-second-null a b e) = went s _ (rest s w c 0 q _ (out a refl) refl)
+  collector-goes (Collector.reads-next a b e h) = went s _ (rest s w c 0 q _ (out a refl) refl)
+  collector-goes (Collector.reads-next-null a b e n) = went s _ (rest s w c 0 q _ (out a refl) refl)
+  collector-goes (Collector.reads-last-null a b e n) = went s _ (rest s w c 0 q _ (out a refl) refl)
   collector-goes (Collector.drops a b h) = went s _ (rest s w c 0 q _ (out a refl) refl)
   collector-goes (Collector.drops-last a b h) = went s _ (rest s w c 0 q _ (out a refl) refl)
   collector-goes (Collector.writes-sweep a b {m} e) = went (withMemory s m) _ (write-out a refl _ refl (store.Phase phase.Sweep) refl e)

@@ -79,8 +79,8 @@ next-early (Next.new e z) = record { sense = refl; lock = refl }
 next-early (Next.marked e) = record { sense = refl; lock = refl }
 next-early (Next.roots e z) = record { sense = refl; lock = refl }
 next-early (Next.root e z) = record { sense = refl; lock = refl }
-next-early (Next.first e) = record { sense = refl; lock = refl }
-next-early (Next.second e) = record { sense = refl; lock = refl }
+next-early (Next.fields e i) = record { sense = refl; lock = refl }
+next-early (Next.field e i) = record { sense = refl; lock = refl }
 
 branch-early : {k : RoundType} {j : ℕ} → Branch k j → (i : ℕ) → (reachedAt phaseStage j i ≡ false) × (reachedAt lockStage j i ≡ false)
 branch-early Branch.noop i = (refl, refl)

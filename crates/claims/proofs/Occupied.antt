@@ -28,7 +28,7 @@ use Rattle.state.specs.declared.State.{State}
 use Rattle.state.specs.declared.Choice.{Choice}
 use Rattle.state.specs.declared.Answer.{Answer}
 use Rattle.state.specs.declared.opening.Heap.{Heap}
-use Rattle.state.specs.Codes.{top, storeWrite, noopFence, rootsFence, workFence, row2Read, row2Write, row4Write, row5Phase, row5Alloc, row7Read0, row7Read1, row9Write, row10Look, row10Free, row11Write, lookStage, senseStage, phaseStage, lockStage, againStage, writeStage, fenceStage}
+use Rattle.state.specs.Codes.{top, storeWrite, noopFence, rootsFence, workFence, row2Read, row2Write, row4Write, row5Phase, row5Alloc, row7First, row7Next, row9Write, row10Look, row10Free, row11Write, lookStage, senseStage, phaseStage, lockStage, againStage, writeStage, fenceStage}
 use Rattle.state.specs.States.{takenOf, refusedOf}
 use Rattle.state.specs.Openings.{openMemory, openingOf}
 use Rattle.formed.specs.Fits.{WellFormed}
@@ -104,8 +104,8 @@ module _ (c : Choice) (q : Process) where
       (picked Still (eqb (q .place) row4Write) Still.writes
       (picked Still (eqb (q .place) row5Phase) Still.writes
       (picked Still (eqb (q .place) row5Alloc) Still.writes
-      (picked Still (eqb (q .place) row7Read0) Still.reads
-      (picked Still (eqb (q .place) row7Read1) Still.reads
+      (picked Still (eqb (q .place) row7First) Still.reads
+      (picked Still (eqb (q .place) row7Next) Still.reads
       (picked Still (eqb (q .place) row9Write) Still.writes
       (picked Still (eqb (q .place) row10Look) Still.sweeps
       (picked Still (eqb (q .place) row11Write) Still.writes

@@ -9,18 +9,18 @@
 --     round-ends             the round over, phase and type are as the next place tells, and no round raises or polls
 --     Seat, mark-seat, mark-part      a step of a mark: it stays or leads to the place after the mark, and the part
 --                                     in the handshakes is left alone
---     scan-rests             the collector's marks rest
+--     scan-rests             the collector's mark rests
 use mathlib.Core.Path.{_≡_, refl, sym, subst, _∙_}
-use mathlib.Core.Bool.{false, false≢true}
+use mathlib.Core.Bool.{false}
 use mathlib.Core.Logic.{_⊎_, inl, inr}
 use Prim.Native.Nat.{ℕ}
+use native.Mathlib.Omega.{arith}
 use Rattle.memory.specs.declared.Memory.{Memory}
 use Rattle.state.specs.declared.Handshake.{Handshake}
 use Rattle.state.specs.declared.Handshake.the-variants as hand
 use Rattle.state.specs.declared.RoundType.{RoundType}
 use Rattle.state.specs.declared.Process.{Process}
-use Rattle.state.specs.Codes.{storeMarkOld, storeMarkY, storeWrite, rootsMark, rootsFinish, row6Take, row7Mark0, row7Read1, row7Mark1, row7Drop, row8Take, noStage, typeStage, raiseStage, pollStage}
-use Rattle.formed.specs.Fits.{Among, scanMarkPlaces}
+use Rattle.state.specs.Codes.{storeMarkOld, storeMarkY, storeWrite, rootsMark, rootsFinish, row6Take, row7Mark, row7Next, row7Drop, row8Take, noStage, typeStage, raiseStage, pollStage}
 use Rattle.model.specs.Rows.{At, unnoted, Next, Mark, Round, Advance}
 use Rattle.claims.specs.Posted.{postedOf, Asked, Allows, askedOf, busyOf}
 
@@ -77,8 +77,8 @@ pub data Leads : ℕ → ℕ → Type 0 where
   new : Leads storeMarkOld storeMarkY
   marked : Leads storeMarkY storeWrite
   roots : Leads rootsMark rootsFinish
-  first : Leads row7Mark0 row7Read1
-  second : Leads row7Mark1 row7Drop
+  fields : Leads row7Mark row7Drop
+  field : Leads row7Mark row7Next
 
 pub data Seat (a b : ℕ) : Type 0 where
   stays : b ≡ a → Seat a b
@@ -90,8 +90,8 @@ next-seat (Next.new e z) = Seat.leads Leads.new e refl
 next-seat (Next.marked e) = Seat.leads Leads.marked e refl
 next-seat (Next.roots e z) = Seat.leads Leads.roots e refl
 next-seat (Next.root e z) = Seat.stays (rw e refl)
-next-seat (Next.first e) = Seat.leads Leads.first e refl
-next-seat (Next.second e) = Seat.leads Leads.second e refl
+next-seat (Next.fields e z) = Seat.leads Leads.fields e refl
+next-seat (Next.field e z) = Seat.leads Leads.field e refl
 
 next-part : {q t : Process} → Next q t → t .part ≡ q .part
 next-part (Next.write e z) = refl
@@ -99,8 +99,8 @@ next-part (Next.new e z) = refl
 next-part (Next.marked e) = refl
 next-part (Next.roots e z) = refl
 next-part (Next.root e z) = refl
-next-part (Next.first e) = refl
-next-part (Next.second e) = refl
+next-part (Next.fields e z) = refl
+next-part (Next.field e z) = refl
 
 pub mark-seat : {p r : ℕ} {q t : Process} {m n : Memory} → Mark m p r q n t → Seat (q .place) (t .place)
 unfolding unnoted
@@ -135,19 +135,20 @@ record Quiet (k : ℕ) : Type 0 where
   pub told : (j : ℕ) → toldOf k j ≡ (hand.IdleMarkSweep, Asked.rootsOrWork)
   pub busy : (j : ℕ) → busyOf k j ≡ false
 
-quiet-seat : {a b k : ℕ} → Among k scanMarkPlaces → a ≡ k → Quiet k → Seat a b → Quiet b
-quiet-seat i e z (Seat.stays f) = rw (f, e) z
-quiet-seat i e z (Seat.leads Leads.write f g) = absurd (false≢true (rw (← e, f) at i))
-quiet-seat i e z (Seat.leads Leads.new f g) = absurd (false≢true (rw (← e, f) at i))
-quiet-seat i e z (Seat.leads Leads.marked f g) = absurd (false≢true (rw (← e, f) at i))
-quiet-seat i e z (Seat.leads Leads.roots f g) = absurd (false≢true (rw (← e, f) at i))
-quiet-seat i e z (Seat.leads Leads.first f g) = rw g (record { told = λ j. refl; busy = λ j. refl })
-quiet-seat i e z (Seat.leads Leads.second f g) = rw g (record { told = λ j. refl; busy = λ j. refl })
+quiet-mark : Quiet row7Mark
+quiet-mark = record { told = λ j. refl; busy = λ j. refl }
+
+quiet-seat : {a b : ℕ} → a ≡ row7Mark → Seat a b → Quiet b
+quiet-seat e (Seat.stays f) = rw (f, e) quiet-mark
+quiet-seat e (Seat.leads Leads.write f g) = absurd (omega arith)
+quiet-seat e (Seat.leads Leads.new f g) = absurd (omega arith)
+quiet-seat e (Seat.leads Leads.marked f g) = absurd (omega arith)
+quiet-seat e (Seat.leads Leads.roots f g) = absurd (omega arith)
+quiet-seat e (Seat.leads Leads.fields f g) = rw g (record { told = λ j. refl; busy = λ j. refl })
+quiet-seat e (Seat.leads Leads.field f g) = rw g (record { told = λ j. refl; busy = λ j. refl })
 
 quiet-rests : {o t : Process} → Quiet (o .place) → Quiet (t .place) → Rests o t
 quiet-rests {o} {t} a b = record { told = λ k h. subst (Tells k h) (a .told (o .stage) ∙ sym (b .told (t .stage))); before = a .busy (o .stage); after = b .busy (t .stage) }
 
-pub scan-rests : {k : ℕ} {o t : Process} → o .place ≡ k → Among k scanMarkPlaces → ((j : ℕ) → toldOf k j ≡ (hand.IdleMarkSweep, Asked.rootsOrWork)) → ((j : ℕ) → busyOf k j ≡ false) → Seat (o .place) (t .place) → Rests o t
-scan-rests {k} e i f g s =
-    let z : Quiet k = record { told = f; busy = g } in
-    quiet-rests (rw e z) (quiet-seat i e z s)
+pub scan-rests : {o t : Process} → o .place ≡ row7Mark → Seat (o .place) (t .place) → Rests o t
+scan-rests e s = quiet-rests (rw e quiet-mark) (quiet-seat e s)

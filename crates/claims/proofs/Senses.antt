@@ -25,9 +25,9 @@ use Rattle.state.specs.declared.RoundType.{RoundType}
 use Rattle.state.specs.declared.Part.{Part}
 use Rattle.state.specs.declared.Process.{Process}
 use Rattle.state.specs.declared.State.{State}
-use Rattle.state.specs.Codes.{row1Round, row2Read, row2Write, row3Round, row4Write, row4Round, row5Phase, row5Alloc, row5Round, row6Round, row6Take, row7Read0, row7Mark0, row7Read1, row7Mark1, row7Drop, row8Round, row8Take, row9Write, row10Look, row10Free, row11Write}
+use Rattle.state.specs.Codes.{row1Round, row2Read, row2Write, row3Round, row4Write, row4Round, row5Phase, row5Alloc, row5Round, row6Round, row6Take, row7First, row7Mark, row7Next, row7Drop, row8Round, row8Take, row9Write, row10Look, row10Free, row11Write}
 use Rattle.state.specs.States.{mutatorsOf, processOf}
-use Rattle.formed.specs.Fits.{amongOf, Among, plainPlaces, roundPlaces, scanPlaces, scanMarkPlaces, CollectorAt, WellFormed}
+use Rattle.formed.specs.Fits.{amongOf, Among, plainPlaces, roundPlaces, CollectorAt, WellFormed}
 use Rattle.formed.proofs.Places.{AllBelow, all-below, allOf, all-true}
 use Rattle.verdict.specs.Table.{InTable}
 use Rattle.claims.specs.Lock.{insideAt, Inside}
@@ -42,7 +42,7 @@ use Rattle.claims.proofs.Handshakes.{settled-handshakes}
 -- ---- the collector's places and stages
 abbrev collectorPlaces : List ℕ
 collectorPlaces =
-    row1Round ∷ row2Read ∷ row2Write ∷ row3Round ∷ row4Write ∷ row4Round ∷ row5Phase ∷ row5Alloc ∷ row5Round ∷ row6Round ∷ row6Take ∷ row7Read0 ∷ row7Mark0 ∷ row7Read1 ∷ row7Mark1 ∷ row7Drop ∷ row8Round ∷ row8Take ∷ row9Write ∷ row10Look ∷ row10Free ∷ row11Write ∷ []
+    row1Round ∷ row2Read ∷ row2Write ∷ row3Round ∷ row4Write ∷ row4Round ∷ row5Phase ∷ row5Alloc ∷ row5Round ∷ row6Round ∷ row6Take ∷ row7First ∷ row7Mark ∷ row7Next ∷ row7Drop ∷ row8Round ∷ row8Take ∷ row9Write ∷ row10Look ∷ row10Free ∷ row11Write ∷ []
 
 abbrev stages : ℕ
 stages = 8
@@ -50,8 +50,9 @@ stages = 8
 stands : (n m : ℕ) (q : Process) → CollectorAt n m q → Among (q .place) collectorPlaces × (q .stage < stages)
 stands n m q (CollectorAt.plain a w) = (all-true (λ k. amongOf k collectorPlaces) plainPlaces refl (q .place) a, omega (arith, w .stage))
 stands n m q (CollectorAt.round a w) = (all-true (λ k. amongOf k collectorPlaces) roundPlaces refl (q .place) a, omega (arith, w .running))
-stands n m q (CollectorAt.scan a w) = (all-true (λ k. amongOf k collectorPlaces) scanPlaces refl (q .place) a, omega (arith, w .stage))
-stands n m q (CollectorAt.scan-mark a w) = (all-true (λ k. amongOf k collectorPlaces) scanMarkPlaces refl (q .place) a, omega (arith, w .mark .running))
+stands n m q (CollectorAt.scan-mark a w) = (rw a refl, omega (arith, w .mark .running))
+stands n m q (CollectorAt.scan a w) = (rw a refl, omega (arith, w .stage))
+stands n m q (CollectorAt.drop a w) = (rw a refl, omega (arith, w .stage))
 stands n m q (CollectorAt.sweep a w) = (rw a refl, omega (arith, w .stage))
 stands n m q (CollectorAt.sweep-free a w) = (rw a refl, omega (arith, w .stage))
 

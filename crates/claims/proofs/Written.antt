@@ -6,7 +6,7 @@
 --     sees-sense        what a read of fM sees
 --     opening-written, step-written     at the opening, and after each step
 use mathlib.Core.Path.{_≡_, refl, sym, ap, _∙_}
-use mathlib.Core.Bool.{Bool, true, false, not, false≢true}
+use mathlib.Core.Bool.{Bool, true, false, not}
 use mathlib.Core.List.{List, [], _∷_, _++_, List·Memᴰ·head}
 use mathlib.Core.Logic.{inl, inr}
 use Prim.Native.Nat.{ℕ}
@@ -40,9 +40,9 @@ use Rattle.state.specs.declared.State.{State}
 use Rattle.state.specs.declared.Choice.{Choice}
 use Rattle.state.specs.declared.opening.Heap.{Heap}
 use Rattle.state.specs.Openings.{openMemory, openCollector, openingOf}
-use Rattle.state.specs.Codes.{row7Mark0, row7Mark1, lookStage, senseStage, phaseStage, lockStage, againStage, writeStage, unlockStage, fenceStage, typeStage, raiseStage, pollStage}
+use Rattle.state.specs.Codes.{row7Mark, lookStage, senseStage, phaseStage, lockStage, againStage, writeStage, unlockStage, fenceStage, typeStage, raiseStage, pollStage}
 use Rattle.state.specs.States.{processOf, withProcess, withMemory, withSystem}
-use Rattle.formed.specs.Fits.{Among, scanMarkPlaces, HeapFits, WellFormed}
+use Rattle.formed.specs.Fits.{HeapFits, WellFormed}
 use Rattle.model.specs.Rows.{At, seesBit, Marks, unnoted, Next, Mark, Round, withList, allOff, withProcesses, flagged, Collector, Row}
 use Rattle.stays_formed.specs.Leaves.{Beside}
 use Rattle.stays_formed.proofs.Frames.{named}
@@ -184,40 +184,28 @@ round-over Round.row6 v = v
 round-over Round.row8 v = v
 
 -- a mark of row 7
-record Scans (k : ℕ) : Type 0 where
-  place : Among k scanMarkPlaces
-  stretch : stretchOf k ≡ Stretch.marks
-  goes : (j : ℕ) → eqb j unlockStage ≡ false → momentOf k j ≡ Moment.goes
-  unlocks : momentOf k unlockStage ≡ Moment.unlocks
-
-scans-first : Scans row7Mark0
-scans-first = record { place = refl; stretch = refl; goes = λ j e. rw e refl; unlocks = refl }
-
-scans-second : Scans row7Mark1
-scans-second = record { place = refl; stretch = refl; goes = λ j e. rw e refl; unlocks = refl }
-
-next-known : {q t : Process} {l : List Entry} {b d : Bool} {h : Phase} → Among (q .place) scanMarkPlaces → Next q t → Wrote (q .sense) Stretch.marks Moment.goes l b d h →
+next-known : {q t : Process} {l : List Entry} {b d : Bool} {h : Phase} → q .place ≡ row7Mark → Next q t → Wrote (q .sense) Stretch.marks Moment.goes l b d h →
     Wrote (t .sense) (stretchOf (t .place)) (momentOf (t .place) (t .stage)) l b d h
-next-known i (Next.write e z) v = absurd (false≢true (rw e at i))
-next-known i (Next.new e z) v = absurd (false≢true (rw e at i))
-next-known i (Next.marked e) v = absurd (false≢true (rw e at i))
-next-known i (Next.roots e z) v = absurd (false≢true (rw e at i))
-next-known i (Next.root e z) v = absurd (false≢true (rw e at i))
-next-known i (Next.first e) v = v
-next-known i (Next.second e) v = v
+next-known i (Next.write e z) v = absurd (omega arith)
+next-known i (Next.new e z) v = absurd (omega arith)
+next-known i (Next.marked e) v = absurd (omega arith)
+next-known i (Next.roots e z) v = absurd (omega arith)
+next-known i (Next.root e z) v = absurd (omega arith)
+next-known i (Next.fields e z) v = v
+next-known i (Next.field e z) v = v
 
-module _ {k : ℕ} (s : Scans k) {n : Bool} {l : List Entry} {b d : Bool} {h : Phase} where
+module _ {n : Bool} {k : ℕ} (s : k ≡ row7Mark) {l : List Entry} {b d : Bool} {h : Phase} where
   scan-from : (j : ℕ) → eqb j unlockStage ≡ false → Wrote n (stretchOf k) (momentOf k j) l b d h → Wrote n Stretch.marks Moment.goes l b d h
-  scan-from j e v = rw (s .stretch, s .goes j e) at v
+  scan-from j e v = rw (s, e) at v
 
   scan-to : (j : ℕ) → eqb j unlockStage ≡ false → Wrote n Stretch.marks Moment.goes l b d h → Wrote n (stretchOf k) (momentOf k j) l b d h
-  scan-to j e v = rw (s .stretch, s .goes j e) v
+  scan-to j e v = rw (s, e) v
 
   scan-unlocks : Wrote n (stretchOf k) (momentOf k unlockStage) l b d h → Wrote n Stretch.marks Moment.unlocks l b d h
-  scan-unlocks v = rw (s .stretch, s .unlocks) at v
+  scan-unlocks v = rw s at v
 
   scan-unlock : Wrote n Stretch.marks Moment.unlocks l b d h → Wrote n (stretchOf k) (momentOf k unlockStage) l b d h
-  scan-unlock v = rw (s .stretch, s .unlocks) v
+  scan-unlock v = rw s v
 
 staged : {j : ℕ} (q : Process) (m : Memory) → q .stage ≡ j → Known q m → Wrote (q .sense) (stretchOf (q .place)) (momentOf (q .place) j) (pendingFor m 0) (m .fm) (m .fa) (m .phase .phase)
 staged q m e v = rw e at v
@@ -226,23 +214,23 @@ renewed : {x n : Bool} {z : Stretch} {w : Moment} {l : List Entry} {b d : Bool} 
 renewed e v = rw e v
 
 -- "The collector's read of fM here renews its one noted fM."
-mark-renews : (m : Memory) (q : Process) → Scans (q .place) → q .stage ≡ senseStage → {b : Bool} → lookSenseOf m 0 ≡ seesBit b → Known q m → Wrote b Stretch.marks Moment.goes (pendingFor m 0) (m .fm) (m .fa) (m .phase .phase)
+mark-renews : (m : Memory) (q : Process) → q .place ≡ row7Mark → q .stage ≡ senseStage → {b : Bool} → lookSenseOf m 0 ≡ seesBit b → Known q m → Wrote b Stretch.marks Moment.goes (pendingFor m 0) (m .fm) (m .fa) (m .phase .phase)
 mark-renews m q s e g v =
     let k = mark-sense (scan-from s senseStage refl (staged q m e v)) in
     renewed (sees-sense m 0 (view-empty m 0 spot.Sense (k .0)) g) (k .1)
 
 -- the unlock of a winner or of a loser: it is taken only with nothing pending
-mark-unlocks : (m n : Memory) (q : Process) → Shaped m → Scans (q .place) → q .stage ≡ unlockStage → unlockOf m 0 ≡ taken n → Known q m → Wrote (q .sense) Stretch.marks Moment.goes (pendingFor n 0) (n .fm) (n .fa) (n .phase .phase)
+mark-unlocks : (m n : Memory) (q : Process) → Shaped m → q .place ≡ row7Mark → q .stage ≡ unlockStage → unlockOf m 0 ≡ taken n → Known q m → Wrote (q .sense) Stretch.marks Moment.goes (pendingFor n 0) (n .fm) (n .fa) (n .phase .phase)
 mark-unlocks m n q z s e g v =
     let k = unlock-taken 0 z g in
     keep (alike-keeps (k .after .pending 0) (k .after .alike)) (quiet-at (k .empty) (scan-unlocks s (staged q m e v)))
 
-mark-known : {m n : Memory} {r : ℕ} {q t : Process} → Shaped m → Scans (q .place) → Mark m 0 r q n t → Known q m → Known t n
+mark-known : {m n : Memory} {r : ℕ} {q t : Process} → Shaped m → q .place ≡ row7Mark → Mark m 0 r q n t → Known q m → Known t n
 unfolding unnoted
 mark-known {m} {q = q} z s (Mark.looks e g) v = scan-to s senseStage refl (scan-from s lookStage refl (staged q m e v))
-mark-known {m} {q = q} z s (Mark.equal e g h) v = next-known (s .place) h (mark-renews m q s e g v)
+mark-known {m} {q = q} z s (Mark.equal e g h) v = next-known s h (mark-renews m q s e g v)
 mark-known {m} {q = q} z s (Mark.unequal e g) v = scan-to s phaseStage refl (mark-renews m q s e g v)
-mark-known {m} {q = q} z s (Mark.idle e g h) v = next-known (s .place) h (scan-from s phaseStage refl (staged q m e v))
+mark-known {m} {q = q} z s (Mark.idle e g h) v = next-known s h (scan-from s phaseStage refl (staged q m e v))
 mark-known {m} {q = q} z s (Mark.busy e g h) v = scan-to s lockStage refl (scan-from s phaseStage refl (staged q m e v))
 mark-known {m} {q = q} z s (Mark.locks e g) v =
     let k = lock-taken 0 g .after in
@@ -250,8 +238,8 @@ mark-known {m} {q = q} z s (Mark.locks e g) v =
 mark-known {m} {q = q} z s (Mark.agrees e g) v = scan-to s writeStage refl (scan-from s againStage refl (staged q m e v))
 mark-known {m} {q = q} z s (Mark.differs e g) v = scan-unlock s (leave-marks (scan-from s againStage refl (staged q m e v)))
 mark-known {m} {r = r} {q = q} z s (Mark.writes e g) v = scan-unlock s (add (store.Mark r (q .sense)) z g (write-mark r (scan-from s writeStage refl (staged q m e v))))
-mark-known {m} {n} {q = q} z s (Mark.wins e g h i) v = next-known (s .place) i (mark-unlocks m n q z s e g v)
-mark-known {m} {n} {q = q} z s (Mark.loses e g h i) v = next-known (s .place) i (mark-unlocks m n q z s e g v)
+mark-known {m} {n} {q = q} z s (Mark.wins e g h i) v = next-known s i (mark-unlocks m n q z s e g v)
+mark-known {m} {n} {q = q} z s (Mark.loses e g h i) v = next-known s i (mark-unlocks m n q z s e g v)
 
 -- the collector is o after it, and memory is that of x
 data Turned : State → Type 0 where
@@ -271,8 +259,7 @@ module _ (s : State) (c : Choice) (w : WellFormed s) where
   scanned (Marks.old i) e v = absurd (let b = collector-within (w .collector) .0 in omega arith)
   scanned (Marks.new i) e v = absurd (let b = collector-within (w .collector) .0 in omega arith)
   scanned (Marks.root i) e v = absurd (let b = collector-within (w .collector) .0 in omega arith)
-  scanned (Marks.first i) e v = mark-known z (rw i scans-first) e v
-  scanned (Marks.second i) e v = mark-known z (rw i scans-second) e v
+  scanned (Marks.field i) e v = mark-known z i e v
 
   -- a round goes on, past its fence
   round-on : {k j l : ℕ} {t : RoundType} (a b : ℕ) → Round k t j l → At k a q → eqb a fenceStage ≡ false → eqb b fenceStage ≡ false → Known q m →
@@ -298,11 +285,12 @@ module _ (s : State) (c : Choice) (w : WellFormed s) where
   collector-known (Collector.takes (inr a) b h) v = Turned.turned (withSystem s (withList (s .system) noCells)) _ (at-known m a v)
   collector-known (Collector.takes-none (inl a) b h) v = Turned.turned (withSystem s (withList (s .system) noCells)) _ (at-known m a v)
   collector-known (Collector.takes-none (inr a) b h) v = Turned.turned (withSystem s (withList (s .system) noCells)) _ (at-known m a v)
-  collector-known (Collector.reads-first a b i e h) v = Turned.turned s _ (at-known m a v)
-  collector-known (Collector.reads-first-null a b i e) v = Turned.turned s _ (at-known m a v)
+  collector-known (Collector.reads-first a b e h) v = Turned.turned s _ (at-known m a v)
+  collector-known (Collector.reads-first-null a b e) v = Turned.turned s _ (at-known m a v)
   collector-known (Collector.marks b i {m = n} {t = t} e) v = Turned.turned (withMemory s n) t (scanned i e v)
-  collector-known (Collector.reads-second a b e h) v = Turned.turned s _ (at-known m a v)
-  collector-known (Collector.reads-second-null a b e) v = Turned.turned s _ (at-known m a v)
+  collector-known (Collector.reads-next a b e h) v = Turned.turned s _ (at-known m a v)
+  collector-known (Collector.reads-next-null a b e n) v = Turned.turned s _ (at-known m a v)
+  collector-known (Collector.reads-last-null a b e n) v = Turned.turned s _ (at-known m a v)
   collector-known (Collector.drops a b h) v = Turned.turned s _ (at-known m a v)
   collector-known (Collector.drops-last a b h) v = Turned.turned s _ (leave-marks (at-known m a v))
   collector-known (Collector.writes-sweep a b {m = n} e) v = Turned.turned (withMemory s n) _ (add (store.Phase phase.Sweep) z e (write-sweep (at-known m a v)))

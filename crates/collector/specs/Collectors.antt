@@ -1,4 +1,4 @@
--- "Collector": rows 1 to 11 of its table, but for row 7's marks. What each place offers, what its step asks of
+-- "Collector": rows 1 to 11 of its table, but for row 7's mark. What each place offers, what its step asks of
 -- memory, and how it goes on with what was seen. Assumes nothing.
 use mathlib.Core.Bool.{Bool, true, false, not}
 use Prim.Native.Nat.{ℕ, _+_}
@@ -19,10 +19,11 @@ use Rattle.state.specs.declared.Choice.{Choice}
 use Rattle.state.specs.declared.acts.Act.the-variants as act
 use Rattle.state.specs.declared.acts.Going.{Going}
 use Rattle.state.specs.declared.acts.Setting.{Setting}
-use Rattle.state.specs.Codes.{row1Round, row2Read, row2Write, row3Round, row4Write, row4Round, row5Phase, row5Alloc, row5Round, row6Round, row6Take, row7Read0, row7Mark0, row7Read1, row7Mark1, row7Drop, row8Round, row8Take, row9Write, row10Look, row10Free, row11Write, noStage, lookStage, fenceStage}
+use Rattle.state.specs.Codes.{row1Round, row2Read, row2Write, row3Round, row4Write, row4Round, row5Phase, row5Alloc, row5Round, row6Round, row6Take, row7First, row7Mark, row7Next, row7Drop, row8Round, row8Take, row9Write, row10Look, row10Free, row11Write, noStage, lookStage, fenceStage}
 use Rattle.state.specs.States.{at, noting, leaving, marking, listing}
-use Rattle.state.specs.Choices.{isBlank, isNaming}
+use Rattle.state.specs.Choices.{allFields, fieldLeft, isBlank, isNaming, isScanning, isScanningOn}
 use Rattle.state.specs.Acts.{goingOn, goingWith}
+use Rattle.marking.specs.Marks.{pastOf}
 use Rattle.rounds.specs.declared.Round.{Round}
 use Rattle.rounds.specs.Rounds.{roundOffers, roundAsk, roundGo}
 
@@ -37,15 +38,16 @@ isRound k =
     (pick (eqb k row8Round) true
     false)))))
 
--- ---- what is offered: "x from its list, named at the first read"; "for each cell number, x naming one left"; else
--- no argument. A place that is none of the collector's offers nothing
+-- ---- what is offered: "x from its list, named at the first read"; "the choice's f names a field not yet scanned";
+-- "for each cell number, x naming one left"; else no argument. A place that is none of the collector's offers nothing
 unfoldable pub rowOffers : Choice → Process → Bool
 rowOffers c q =
-    pick (eqb (q .place) row7Read0) (isNaming c (q .work))
+    pick (eqb (q .place) row7First) (isScanning c (q .work))
+    (pick (eqb (q .place) row7Next) (isScanningOn c (q .left))
     (pick (eqb (q .place) row10Look) (isNaming c (q .left))
     (pick (ltb (q .place) row1Round) false
     (pick (ltb (q .place) (row11Write + 1)) (isBlank c)
-    false)))
+    false))))
 
 unfoldable pub collectorOffers : Choice → Process → Bool
 collectorOffers c q = pick (isRound (q .place)) (roundOffers c q) (rowOffers c q)
@@ -58,8 +60,8 @@ rowAsk c q =
     (pick (eqb (q .place) row4Write) (ask.Make (change.Write (store.Phase phase.Init)))
     (pick (eqb (q .place) row5Phase) (ask.Make (change.Write (store.Phase phase.Mark)))
     (pick (eqb (q .place) row5Alloc) (ask.Make (change.Write (store.AllocSense (q .sense))))
-    (pick (eqb (q .place) row7Read0) (ask.Look (spot.Field (c .x) 0))
-    (pick (eqb (q .place) row7Read1) (ask.Look (spot.Field (q .x) 1))
+    (pick (eqb (q .place) row7First) (ask.Look (spot.Field (c .x) (c .f)))
+    (pick (eqb (q .place) row7Next) (ask.Look (spot.Field (q .x) (c .f)))
     (pick (eqb (q .place) row9Write) (ask.Make (change.Write (store.Phase phase.Sweep)))
     (pick (eqb (q .place) row10Look) (ask.Sweep (c .x))
     (pick (eqb (q .place) row10Free) (ask.Make (change.Free (q .x)))
@@ -79,21 +81,24 @@ flipped q = at row3Round fenceStage (marking (q .cell) (q .look) (not (q .sense)
 
 -- rows 6 and 8: "it replaces the collector's own); empty: row 9"
 unfoldable pub taking : ℕ → Process → Process
-taking w q = pick (eqb w 0) (at row9Write (q .stage) (listing w (q .roots) q)) (at row7Read0 (q .stage) (listing w (q .roots) q))
+taking w q = pick (eqb w 0) (at row9Write (q .stage) (listing w (q .roots) q)) (at row7First (q .stage) (listing w (q .roots) q))
 
--- row 7: "read field 0, mark it, read field 1, mark it": past the mark if it is null
-unfoldable pub scanning : ℕ → ℕ → ℕ → ℕ → Process → Process
-scanning x v k j q =
+-- row 7: the fields left past the one that the choice names; "mark it", or past the mark if it is null
+unfoldable pub othersOf : ℕ → Choice → ℕ
+othersOf l c = removeOf l (fieldLeft (c .f))
+
+unfoldable pub scanning : ℕ → ℕ → ℕ → Process → Process
+scanning x l v q =
     pick (eqb v 0)
-    (at j (q .stage) (noting x (q .f) (q .y) (q .old) q))
-    (at k lookStage (marking v (q .look) (q .sense) (q .grey) (noting x (q .f) (q .y) (q .old) q)))
+    (pastOf (at row7Mark (q .stage) (leaving l (noting x (q .f) (q .y) (q .old) q))))
+    (at row7Mark lookStage (marking v (q .look) (q .sense) (q .grey) (leaving l (noting x (q .f) (q .y) (q .old) q))))
 
 -- "drop x (one step); until empty"
 unfoldable pub dropping : ℕ → Process → Process
 dropping w q =
     pick (eqb w 0)
     (at row8Round fenceStage (listing w (q .roots) (noting 0 (q .f) (q .y) (q .old) q)))
-    (at row7Read0 (q .stage) (listing w (q .roots) (noting 0 (q .f) (q .y) (q .old) q)))
+    (at row7First (q .stage) (listing w (q .roots) (noting 0 (q .f) (q .y) (q .old) q)))
 
 -- row 10: "for each cell number"
 unfoldable pub sweepFrom : ℕ → Process → Process
@@ -132,8 +137,8 @@ rowGo c n v q =
     (pick (eqb (q .place) row4Write) (at row4Round fenceStage q)
     (pick (eqb (q .place) row5Phase) (at row5Alloc noStage q)
     (pick (eqb (q .place) row5Alloc) (at row5Round fenceStage q)
-    (pick (eqb (q .place) row7Read0) (scanning (c .x) (valueOf (v .store)) row7Mark0 row7Read1 q)
-    (pick (eqb (q .place) row7Read1) (scanning (q .x) (valueOf (v .store)) row7Mark1 row7Drop q)
+    (pick (eqb (q .place) row7First) (scanning (c .x) (othersOf allFields c) (valueOf (v .store)) q)
+    (pick (eqb (q .place) row7Next) (scanning (q .x) (othersOf (q .left) c) (valueOf (v .store)) q)
     (pick (eqb (q .place) row7Drop) (dropping (removeOf (q .work) (q .x)) q)
     (pick (eqb (q .place) row9Write) (sweepFrom n q)
     (pick (eqb (q .place) row10Look) (swept (c .x) (v .used) (bitOf (v .store)) q)

@@ -1,4 +1,4 @@
-// "Collector": rows 1 to 11 of its table, but for row 7's marks (crate `marking`); the rounds are of crate `rounds`.
+// "Collector": rows 1 to 11 of its table, but for row 7's mark (crate `marking`); the rounds are of crate `rounds`.
 // What each place offers, what its step asks of memory, and how it goes on with what was seen. c is the choice, q the
 // collector.
 use buffers::Phase;
@@ -20,7 +20,7 @@ use state::codes::RoundStage;
 use state::codes::Stage;
 ghost use mathlib.Core.Path.{_≡_};
 ghost use Rattle.state.specs.States.{at};
-ghost use Rattle.collector.specs.Collectors.{isRound, rowOffers, collectorOffers, rowAsk, collectorAsk, sensed, flipped, taking, scanning, dropping, sweepFrom, sweeping, swept, rowRound, rowGo, listGo, collectorGo};
+ghost use Rattle.collector.specs.Collectors.{isRound, rowOffers, collectorOffers, rowAsk, collectorAsk, sensed, flipped, taking, othersOf, scanning, dropping, sweepFrom, sweeping, swept, rowRound, rowGo, listGo, collectorGo};
 
 // The rounds of rows 1, 3, 4, 5, 6 and 8.
 fn is_round(place: u8) -> bool
@@ -37,14 +37,15 @@ fn is_round(place: u8) -> bool
     }
 }
 
-// "x from its list, named at the first read"; "for each cell number, x naming one left"; else the place uses no
-// argument. One that is none of the collector's offers nothing.
+// "x from its list, named at the first read"; "the choice's f names a field not yet scanned"; "for each cell number, x
+// naming one left"; else the place uses no argument. One that is none of the collector's offers nothing.
 fn row_offers(c: Choice, q: Process) -> bool
     ensures { λ r. ⌜ r ≡ rowOffers c q ⌝ }
 {
     let place = q.place;
     match place {
-        Place::ROW7_READ0 => c.names(q.work),
+        Place::ROW7_FIRST => c.scans(q.work),
+        Place::ROW7_NEXT => c.scans_on(q.left),
         Place::ROW10_LOOK => c.names(q.left),
         0..=Place::WORK_FINISH => false,
         Place::ROW1_ROUND..=Place::ROW11_WRITE => c.blank(),
@@ -73,13 +74,13 @@ fn row_ask(c: Choice, q: Process) -> Ask
         Place::ROW4_WRITE => Ask::Make(Change::Write(Store::Phase(Phase::Init))),
         Place::ROW5_PHASE => Ask::Make(Change::Write(Store::Phase(Phase::Mark))),
         Place::ROW5_ALLOC => Ask::Make(Change::Write(Store::AllocSense(q.sense))),
-        Place::ROW7_READ0 => Ask::Look(Spot::Field {
+        Place::ROW7_FIRST => Ask::Look(Spot::Field {
             cell: c.x,
-            field: 0,
+            field: c.f,
         }),
-        Place::ROW7_READ1 => Ask::Look(Spot::Field {
+        Place::ROW7_NEXT => Ask::Look(Spot::Field {
             cell: q.x,
-            field: 1,
+            field: c.f,
         }),
         Place::ROW9_WRITE => Ask::Make(Change::Write(Store::Phase(Phase::Sweep))),
         Place::ROW10_LOOK => Ask::Sweep(c.x),
@@ -134,20 +135,27 @@ fn taking(work: u64, mut q: Process) -> Process
         q.place = Place::ROW9_WRITE;
         return q;
     }
-    q.place = Place::ROW7_READ0;
+    q.place = Place::ROW7_FIRST;
     q
 }
 
-// Row 7: a field of x is read; "mark it", past the mark to the place `past` if it is null.
-fn scanning(x: u8, value: u8, place: u8, past: u8, mut q: Process) -> Process
-    ensures { λ r. ⌜ r ≡ scanning x value place past q ⌝ }
+// Row 7: the fields left past the one that the choice names.
+fn others(left: u64, c: Choice) -> u64
+    ensures { λ r. ⌜ r ≡ othersOf left c ⌝ }
 {
+    cells::remove(left, c.field_left())
+}
+
+// Row 7: a field of x is read, and these are left; "mark it", or past the mark if it is null.
+fn scanning(x: u8, left: u64, value: u8, mut q: Process) -> Process
+    ensures { λ r. ⌜ r ≡ scanning x left value q ⌝ }
+{
+    q.place = Place::ROW7_MARK;
     q.x = x;
+    q.left = left;
     if value == 0 {
-        q.place = past;
-        return q;
+        return marking::past(q);
     }
-    q.place = place;
     q.stage = MarkStage::LOOK;
     q.cell = value;
     q
@@ -164,7 +172,7 @@ fn dropping(work: u64, mut q: Process) -> Process
         q.stage = RoundStage::FENCE;
         return q;
     }
-    q.place = Place::ROW7_READ0;
+    q.place = Place::ROW7_FIRST;
     q
 }
 
@@ -244,7 +252,7 @@ fn row_round(place: u8) -> Round
     }
 }
 
-// How the rows go on, but for their rounds and takes. At row 7's marks the crate `marking` tells it; elsewhere
+// How the rows go on, but for their rounds and takes. At row 7's mark the crate `marking` tells it; elsewhere
 // nothing is offered.
 fn row_go(c: Choice, n: u8, seen: Sight, q: Process) -> Process
     ensures { λ r. ⌜ r ≡ rowGo c n seen q ⌝ }
@@ -257,8 +265,8 @@ fn row_go(c: Choice, n: u8, seen: Sight, q: Process) -> Process
         Place::ROW4_WRITE => to(Place::ROW4_ROUND, RoundStage::FENCE, q),
         Place::ROW5_PHASE => to(Place::ROW5_ALLOC, Stage::NONE, q),
         Place::ROW5_ALLOC => to(Place::ROW5_ROUND, RoundStage::FENCE, q),
-        Place::ROW7_READ0 => scanning(c.x, v.value_in(), Place::ROW7_MARK0, Place::ROW7_READ1, q),
-        Place::ROW7_READ1 => scanning(q.x, v.value_in(), Place::ROW7_MARK1, Place::ROW7_DROP, q),
+        Place::ROW7_FIRST => scanning(c.x, others(cells::full(Spot::FIELDS), c), v.value_in(), q),
+        Place::ROW7_NEXT => scanning(q.x, others(q.left, c), v.value_in(), q),
         Place::ROW7_DROP => dropping(cells::remove(q.work, q.x), q),
         Place::ROW9_WRITE => sweep_from(n, q),
         Place::ROW10_LOOK => swept(c.x, seen.used, v.bit_in(), q),

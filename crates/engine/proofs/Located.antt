@@ -14,7 +14,7 @@ use Rattle.state.specs.declared.State.{State}
 use Rattle.state.specs.declared.Choice.{Choice}
 use Rattle.state.specs.Codes.{row10Look, noStage, unlockStage, pollStage}
 use Rattle.state.specs.States.{mutatorsOf, processOf}
-use Rattle.formed.specs.Fits.{WellFormed, idlePlaces, plainPlaces, roundPlaces, scanPlaces, scanMarkPlaces, CollectorAt, plain, round, scan, scan-mark, sweep, sweep-free, MutatorAt, idle, mark-old, mark-y, write, roots-first, roots-rest}
+use Rattle.formed.specs.Fits.{WellFormed, idlePlaces, plainPlaces, roundPlaces, CollectorAt, plain, round, scan-mark, scan, drop, sweep, sweep-free, MutatorAt, idle, mark-old, mark-y, write, roots-first, roots-rest}
 use Rattle.formed.proofs.Places.{all-true}
 use Rattle.formed.proofs.Gives.{sweep-at, mutator-within, collector-within}
 use Rattle.model.specs.Offers.{markPlace, roundPlace}
@@ -60,8 +60,9 @@ module _ (q : Process) where
   collector-stands : {n m : ℕ} → CollectorAt n m q → Standing q
   collector-stands (plain g w) = stands-plain (all-true plainOf plainPlaces refl (q .place) g) (w .stage)
   collector-stands (round g w) = stands-round (all-true roundOf roundPlaces refl (q .place) g) (w .begun) (w .running)
-  collector-stands (scan g w) = stands-plain (all-true plainOf scanPlaces refl (q .place) g) (w .stage)
-  collector-stands (scan-mark g w) = stands-mark (all-true markOf scanMarkPlaces refl (q .place) g) (w .mark .begun) (w .mark .running)
+  collector-stands (scan-mark e w) = stands-mark (rw e refl) (w .mark .begun) (w .mark .running)
+  collector-stands (scan e w) = stands-plain (rw e refl) (w .stage)
+  collector-stands (drop e w) = stands-plain (rw e refl) (w .stage)
   collector-stands (sweep e w) = stands-plain (rw e refl) (w .stage)
   collector-stands (sweep-free e w) = stands-plain (rw e refl) (w .stage)
 

@@ -12,21 +12,22 @@ fn storing(mut q: Process) -> Process {
     q
 }
 
-// Row 7: cell 1 in hand, 1 and 2 on the list.
-fn scanning(mut q: Process) -> Process {
+// Row 7: cell 1 in hand and its fields left, 1 and 2 on the list.
+fn scanning(mut q: Process, left: u64) -> Process {
     q.x = 1;
+    q.left = left;
     q.work = 3;
     q
 }
 
-// The notes of the operation or the row, and what is left: roots 1 and 2, or cells 1 to 3.
+// The notes of the operation or the row, and what is left: roots 1 and 2, field 1, or cells 1 to 3.
 fn noted(mut q: Process, place: u8) -> Process {
     match place {
         Place::STORE_MARK_OLD | Place::STORE_MARK_Y | Place::STORE_WRITE => return storing(q),
         Place::ROOTS_MARK => q.left = 3,
-        Place::ROW7_READ0 => q.work = 3,
-        Place::ROW7_MARK0 | Place::ROW7_READ1 | Place::ROW7_MARK1 | Place::ROW7_DROP =>
-            return scanning(q),
+        Place::ROW7_FIRST => q.work = 3,
+        Place::ROW7_MARK | Place::ROW7_NEXT => return scanning(q, 2),
+        Place::ROW7_DROP => return scanning(q, 0),
         Place::ROW10_LOOK => q.left = 7,
         Place::ROW10_FREE => {
             q.x = 1;
@@ -67,7 +68,7 @@ fn staged(q: Process, place: u8, stage: u8) -> Process {
             }
             marked(q, stage, 2)
         }
-        Place::ROW7_MARK0 | Place::ROW7_MARK1 => marked(q, stage, 2),
+        Place::ROW7_MARK => marked(q, stage, 2),
         _ => awaiting(q, stage),
     }
 }

@@ -20,11 +20,11 @@ use Rattle.state.specs.declared.Part.{Part}
 use Rattle.state.specs.declared.Process.{Process}
 use Rattle.state.specs.Codes.{top, workFinish, row1Round, row11Write, noStage, lookStage, phaseStage, pollStage}
 use Rattle.state.specs.States.{noPart, noProcess, phaseNumber}
-use Rattle.formed.specs.Uses.{row, noNotes, ofStore, aCell, nothingLeft, cellsLeft, unstaged, ofOld, ofY, ofNamed, nothingRow, roundRow, scanRow, scanMarkRow, usesOf}
-use Rattle.formed.specs.Fits.{Unnoted, Unmarked, Idle, StoreMark, RootsFirst, RootsRest, MutatorAt, idle, mark-old, mark-y, write, roots-first, roots-rest, MutatorFits, CollectorAt, plain, round, scan, scan-mark, sweep, sweep-free, CollectorFits}
+use Rattle.formed.specs.Uses.{row, noNotes, ofStore, aCell, nothingLeft, cellsLeft, fieldsLeft, unstaged, ofOld, ofY, ofCell, ofNamed, nothingRow, roundRow, usesOf}
+use Rattle.formed.specs.Fits.{Unnoted, Unmarked, Idle, StoreMark, RootsFirst, RootsRest, MutatorAt, idle, mark-old, mark-y, write, roots-first, roots-rest, MutatorFits, CollectorAt, plain, round, scan-mark, scan, drop, sweep, sweep-free, CollectorFits}
 use Rattle.formed.specs.WellFormed.{noStoreOf, notesFitOf, leftFitsOf, noMarkOf, markFitsOf, namedFitsOf, roundFitsOf, stageFitsOf, placeFitsOf, senseFitsOf, mutatorFitsOf, noPartOf, collectorFitsOf, nobodyOf}
 use Rattle.formed.proofs.Columns.{late-told, late-test, store-told, store-test, NoStore, unnoted-told, unnoted-test, noted-told, noted-test, mark-told, mark-test, unmarked-told, unmarked-test, left-told, left-test, columns, joined}
-use Rattle.formed.proofs.Places.{MutatorPlace, is-idle, is-mark-old, is-mark-y, is-write, is-roots, mutator-place, CollectorPlace, is-plain, is-round, is-scan, is-scan-mark, is-sweep, is-sweep-free, collector-place, uses-idle, uses-plain, uses-round, uses-scan, uses-scan-mark, idle-mutator, isCollectors, plain-collector, round-collector, scan-collector, scan-mark-collector}
+use Rattle.formed.proofs.Places.{MutatorPlace, is-idle, is-mark-old, is-mark-y, is-write, is-roots, mutator-place, CollectorPlace, is-plain, is-round, is-scan-mark, is-scan, is-drop, is-sweep, is-sweep-free, collector-place, uses-idle, uses-plain, uses-round, idle-mutator, isCollectors, plain-collector, round-collector}
 
 -- ---- a mutator
 module _ (n m : ℕ) (q : Process) where
@@ -153,15 +153,20 @@ module _ (n m : ℕ) (q : Process) where
           let b = unnoted-told n q (w .notes) in
           let f = left-told n q m (w .left) in
           (round h (record { begun = ltb-true _ _ (a .0); running = leb-true _ _ (d .0); no-x = b .no-x; none-left = f .0; left = f .1; mark = unmarked-told n q (d .1) }), bare b)
+      go (is-scan-mark h) =
+          let w = columns n q m (row aCell fieldsLeft ofCell) (rw h refl) e in
+          let b = noted-told n q (w .notes) in
+          (scan-mark h (record { is-x = b .0; left = w .left; mark = mark-told n q (q .cell) (w .stage) }), b .1)
       go (is-scan h) =
-          let w = columns n q m scanRow (uses-scan (q .place) h) e in
+          let w = columns n q m (row aCell fieldsLeft unstaged) (rw h refl) e in
           let a = resting (w .stage) in
           let b = noted-told n q (w .notes) in
-          (scan h (record { stage = a .0; is-x = b .0; left = eqb-true _ _ (w .left); mark = a .1 }), b .1)
-      go (is-scan-mark h) =
-          let w = columns n q m scanMarkRow (uses-scan-mark (q .place) h) e in
+          (scan h (record { stage = a .0; is-x = b .0; left = w .left; mark = a .1 }), b .1)
+      go (is-drop h) =
+          let w = columns n q m (row aCell nothingLeft unstaged) (rw h refl) e in
+          let a = resting (w .stage) in
           let b = noted-told n q (w .notes) in
-          (scan-mark h (record { is-x = b .0; left = eqb-true _ _ (w .left); mark = mark-told n q (q .cell) (w .stage) }), b .1)
+          (drop h (record { stage = a .0; is-x = b .0; left = eqb-true _ _ (w .left); mark = a .1 }), b .1)
       go (is-sweep h) =
           let w = columns n q m (row noNotes cellsLeft unstaged) (rw h refl) e in
           let a = resting (w .stage) in
@@ -183,13 +188,17 @@ module _ (n m : ℕ) (q : Process) where
     round-collector (q .place) h,
     joined n q m roundRow (uses-round (q .place) h) (record { notes = unnoted-test n q (record { no-x = w .no-x; no-f = z .no-f; no-y = z .no-y; no-old = z .no-old }); left = left-test n q m (w .none-left) (w .left); stage = rw (lt-ltb _ _ (w .begun), le-leb _ _ (w .running)) (unmarked-test n q (w .mark)) }),
   )
-  collector-at-test (scan h w) z = (
-    scan-collector (q .place) h,
-    joined n q m scanRow (uses-scan (q .place) h) (record { notes = noted-test n q (w .is-x) z; left = eq-eqb _ _ (w .left); stage = resting-test (w .stage) (w .mark) }),
-  )
   collector-at-test (scan-mark h w) z = (
-    scan-mark-collector (q .place) h,
-    joined n q m scanMarkRow (uses-scan-mark (q .place) h) (record { notes = noted-test n q (w .is-x) z; left = eq-eqb _ _ (w .left); stage = mark-test n q (q .cell) (w .mark) }),
+    rw h refl,
+    joined n q m (row aCell fieldsLeft ofCell) (rw h refl) (record { notes = noted-test n q (w .is-x) z; left = w .left; stage = mark-test n q (q .cell) (w .mark) }),
+  )
+  collector-at-test (scan h w) z = (
+    rw h refl,
+    joined n q m (row aCell fieldsLeft unstaged) (rw h refl) (record { notes = noted-test n q (w .is-x) z; left = w .left; stage = resting-test (w .stage) (w .mark) }),
+  )
+  collector-at-test (drop h w) z = (
+    rw h refl,
+    joined n q m (row aCell nothingLeft unstaged) (rw h refl) (record { notes = noted-test n q (w .is-x) z; left = eq-eqb _ _ (w .left); stage = resting-test (w .stage) (w .mark) }),
   )
   collector-at-test (sweep h w) z = (
     rw h refl,

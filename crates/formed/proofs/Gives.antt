@@ -2,7 +2,7 @@
 -- `mark-old`, .. of `MutatorAt`, `plain`, .. of `CollectorAt`. Assumes nothing.
 --     idle-at, mark-old-at, mark-y-at, write-at, roots-at      a mutator, by its place
 --     roots-first-at, roots-rest-at                            where it marks roots, by its stage
---     plain-at, round-at, scan-at, scan-mark-at, sweep-at, sweep-free-at      the collector, by its place
+--     plain-at, round-at, scan-mark-at, scan-at, drop-at, sweep-at, sweep-free-at      the collector, by its place
 --     mutator-within, collector-within                         each stands at a place of its own program
 --     mark-begins, mark-looks, mark-goes-on, mark-greys        the notes of a mark, from stage to stage
 --     shaken, shakes, lists                                    a mutator's lists and its part in the handshakes are
@@ -19,10 +19,10 @@ use Rattle.cells.specs.Sets.{belowOf}
 use Rattle.buffers.specs.Fits.{IsCell}
 use Rattle.state.specs.declared.Process.{Process}
 use Rattle.state.specs.declared.Handshake.{Handshake}
-use Rattle.state.specs.Codes.{storeMarkOld, storeMarkY, storeWrite, rootsMark, workFinish, row1Round, row10Look, row10Free, row11Write, lookStage, senseStage, unlockStage}
+use Rattle.state.specs.Codes.{storeMarkOld, storeMarkY, storeWrite, rootsMark, workFinish, row1Round, row7Mark, row7Next, row7Drop, row10Look, row10Free, row11Write, lookStage, senseStage, unlockStage}
 use Rattle.state.specs.States.{listing, shaking}
-use Rattle.formed.specs.Fits.{Among, idlePlaces, plainPlaces, roundPlaces, scanPlaces, scanMarkPlaces, MarkNotes, Idle, StoreMark, StoreWrite, RootsFirst, RootsRest, MutatorAt, idle, mark-old, mark-y, write, roots-first, roots-rest, MutatorFits, PlainNotes, RoundNotes, Scan, ScanMark, Sweep, SweepFree, CollectorAt, plain, round, scan, scan-mark, sweep, sweep-free, CollectorFits}
-use Rattle.formed.proofs.Places.{apart, idle-mutator, isCollectors, plain-collector, round-collector, scan-collector, scan-mark-collector}
+use Rattle.formed.specs.Fits.{Among, idlePlaces, plainPlaces, roundPlaces, MarkNotes, Idle, StoreMark, StoreWrite, RootsFirst, RootsRest, MutatorAt, idle, mark-old, mark-y, write, roots-first, roots-rest, MutatorFits, PlainNotes, RoundNotes, ScanMark, Scan, Drop, Sweep, SweepFree, CollectorAt, plain, round, scan-mark, scan, drop, sweep, sweep-free, CollectorFits}
+use Rattle.formed.proofs.Places.{apart, idle-mutator, isCollectors, plain-collector, round-collector}
 
 -- ---- a mutator
 module _ (n : ℕ) (q : Process) where
@@ -93,48 +93,63 @@ module _ (n m : ℕ) (q : Process) where
   plain-in : CollectorAt n m q → Among (q .place) plainPlaces → PlainNotes q
   plain-in (plain g w) h = w
   plain-in (round g w) h = absurd (apart roundPlaces plainPlaces refl (q .place) g h)
-  plain-in (scan g w) h = absurd (apart scanPlaces plainPlaces refl (q .place) g h)
-  plain-in (scan-mark g w) h = absurd (apart scanMarkPlaces plainPlaces refl (q .place) g h)
+  plain-in (scan-mark g w) h = absurd (false≢true (rw g at h))
+  plain-in (scan g w) h = absurd (false≢true (rw g at h))
+  plain-in (drop g w) h = absurd (false≢true (rw g at h))
   plain-in (sweep g w) h = absurd (false≢true (rw g at h))
   plain-in (sweep-free g w) h = absurd (false≢true (rw g at h))
 
   round-in : CollectorAt n m q → Among (q .place) roundPlaces → RoundNotes m q
   round-in (plain g w) h = absurd (apart plainPlaces roundPlaces refl (q .place) g h)
   round-in (round g w) h = w
-  round-in (scan g w) h = absurd (apart scanPlaces roundPlaces refl (q .place) g h)
-  round-in (scan-mark g w) h = absurd (apart scanMarkPlaces roundPlaces refl (q .place) g h)
+  round-in (scan-mark g w) h = absurd (false≢true (rw g at h))
+  round-in (scan g w) h = absurd (false≢true (rw g at h))
+  round-in (drop g w) h = absurd (false≢true (rw g at h))
   round-in (sweep g w) h = absurd (false≢true (rw g at h))
   round-in (sweep-free g w) h = absurd (false≢true (rw g at h))
 
-  scan-in : CollectorAt n m q → Among (q .place) scanPlaces → Scan n q
-  scan-in (plain g w) h = absurd (apart plainPlaces scanPlaces refl (q .place) g h)
-  scan-in (round g w) h = absurd (apart roundPlaces scanPlaces refl (q .place) g h)
-  scan-in (scan g w) h = w
-  scan-in (scan-mark g w) h = absurd (apart scanMarkPlaces scanPlaces refl (q .place) g h)
-  scan-in (sweep g w) h = absurd (false≢true (rw g at h))
-  scan-in (sweep-free g w) h = absurd (false≢true (rw g at h))
+  scan-mark-in : CollectorAt n m q → q .place ≡ row7Mark → ScanMark n q
+  scan-mark-in (plain g w) e = absurd (false≢true (rw e at g))
+  scan-mark-in (round g w) e = absurd (false≢true (rw e at g))
+  scan-mark-in (scan-mark g w) e = w
+  scan-mark-in (scan g w) e = absurd (omega arith)
+  scan-mark-in (drop g w) e = absurd (omega arith)
+  scan-mark-in (sweep g w) e = absurd (omega arith)
+  scan-mark-in (sweep-free g w) e = absurd (omega arith)
 
-  scan-mark-in : CollectorAt n m q → Among (q .place) scanMarkPlaces → ScanMark n q
-  scan-mark-in (plain g w) h = absurd (apart plainPlaces scanMarkPlaces refl (q .place) g h)
-  scan-mark-in (round g w) h = absurd (apart roundPlaces scanMarkPlaces refl (q .place) g h)
-  scan-mark-in (scan g w) h = absurd (apart scanPlaces scanMarkPlaces refl (q .place) g h)
-  scan-mark-in (scan-mark g w) h = w
-  scan-mark-in (sweep g w) h = absurd (false≢true (rw g at h))
-  scan-mark-in (sweep-free g w) h = absurd (false≢true (rw g at h))
+  scan-in : CollectorAt n m q → q .place ≡ row7Next → Scan n q
+  scan-in (plain g w) e = absurd (false≢true (rw e at g))
+  scan-in (round g w) e = absurd (false≢true (rw e at g))
+  scan-in (scan-mark g w) e = absurd (omega arith)
+  scan-in (scan g w) e = w
+  scan-in (drop g w) e = absurd (omega arith)
+  scan-in (sweep g w) e = absurd (omega arith)
+  scan-in (sweep-free g w) e = absurd (omega arith)
+
+  drop-in : CollectorAt n m q → q .place ≡ row7Drop → Drop n q
+  drop-in (plain g w) e = absurd (false≢true (rw e at g))
+  drop-in (round g w) e = absurd (false≢true (rw e at g))
+  drop-in (scan-mark g w) e = absurd (omega arith)
+  drop-in (scan g w) e = absurd (omega arith)
+  drop-in (drop g w) e = w
+  drop-in (sweep g w) e = absurd (omega arith)
+  drop-in (sweep-free g w) e = absurd (omega arith)
 
   sweep-in : CollectorAt n m q → q .place ≡ row10Look → Sweep n q
   sweep-in (plain g w) e = absurd (false≢true (rw e at g))
   sweep-in (round g w) e = absurd (false≢true (rw e at g))
-  sweep-in (scan g w) e = absurd (false≢true (rw e at g))
-  sweep-in (scan-mark g w) e = absurd (false≢true (rw e at g))
+  sweep-in (scan-mark g w) e = absurd (omega arith)
+  sweep-in (scan g w) e = absurd (omega arith)
+  sweep-in (drop g w) e = absurd (omega arith)
   sweep-in (sweep g w) e = w
   sweep-in (sweep-free g w) e = absurd (omega arith)
 
   sweep-free-in : CollectorAt n m q → q .place ≡ row10Free → SweepFree n q
   sweep-free-in (plain g w) e = absurd (false≢true (rw e at g))
   sweep-free-in (round g w) e = absurd (false≢true (rw e at g))
-  sweep-free-in (scan g w) e = absurd (false≢true (rw e at g))
-  sweep-free-in (scan-mark g w) e = absurd (false≢true (rw e at g))
+  sweep-free-in (scan-mark g w) e = absurd (omega arith)
+  sweep-free-in (scan g w) e = absurd (omega arith)
+  sweep-free-in (drop g w) e = absurd (omega arith)
   sweep-free-in (sweep g w) e = absurd (omega arith)
   sweep-free-in (sweep-free g w) e = w
 
@@ -144,11 +159,14 @@ plain-at {n} {m} {q} k h e w = plain-in n m q (w .notes) (rw e h)
 pub round-at : {n m : ℕ} {q : Process} (k : ℕ) → Among k roundPlaces → q .place ≡ k → CollectorFits n m q → RoundNotes m q
 round-at {n} {m} {q} k h e w = round-in n m q (w .notes) (rw e h)
 
-pub scan-at : {n m : ℕ} {q : Process} (k : ℕ) → Among k scanPlaces → q .place ≡ k → CollectorFits n m q → Scan n q
-scan-at {n} {m} {q} k h e w = scan-in n m q (w .notes) (rw e h)
+pub scan-mark-at : {n m : ℕ} {q : Process} → q .place ≡ row7Mark → CollectorFits n m q → ScanMark n q
+scan-mark-at {n} {m} {q} e w = scan-mark-in n m q (w .notes) e
 
-pub scan-mark-at : {n m : ℕ} {q : Process} (k : ℕ) → Among k scanMarkPlaces → q .place ≡ k → CollectorFits n m q → ScanMark n q
-scan-mark-at {n} {m} {q} k h e w = scan-mark-in n m q (w .notes) (rw e h)
+pub scan-at : {n m : ℕ} {q : Process} → q .place ≡ row7Next → CollectorFits n m q → Scan n q
+scan-at {n} {m} {q} e w = scan-in n m q (w .notes) e
+
+pub drop-at : {n m : ℕ} {q : Process} → q .place ≡ row7Drop → CollectorFits n m q → Drop n q
+drop-at {n} {m} {q} e w = drop-in n m q (w .notes) e
 
 pub sweep-at : {n m : ℕ} {q : Process} → q .place ≡ row10Look → CollectorFits n m q → Sweep n q
 sweep-at {n} {m} {q} e w = sweep-in n m q (w .notes) e
@@ -177,8 +195,9 @@ collector-within {n} {m} {q} w = go (w .notes)
     go : CollectorAt n m q → (row1Round ≤ q .place) × (q .place ≤ row11Write)
     go (plain g v) = both (plain-collector (q .place) g)
     go (round g v) = both (round-collector (q .place) g)
-    go (scan g v) = both (scan-collector (q .place) g)
-    go (scan-mark g v) = both (scan-mark-collector (q .place) g)
+    go (scan-mark g v) = (omega arith, omega arith)
+    go (scan g v) = (omega arith, omega arith)
+    go (drop g v) = (omega arith, omega arith)
     go (sweep g v) = (omega arith, omega arith)
     go (sweep-free g v) = (omega arith, omega arith)
 

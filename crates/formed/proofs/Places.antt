@@ -2,7 +2,7 @@
 --     all-below, all-among, all-true   what holds of each number below n, or of each of a list, one by one
 --     apart                        two lists of places with none in common
 --     MutatorPlace, CollectorPlace     the groups of places; mutator-place, collector-place: each place is in one
---     uses-idle, uses-plain, uses-round, uses-scan, uses-scan-mark       the row of each group of several places
+--     uses-idle, uses-plain, uses-round      the row of each group of several places
 use mathlib.Core.Path.{_≡_, refl, sym, _∙_}
 use mathlib.Core.Bool.{Bool, true, not, false≢true}
 use mathlib.Core.List.{List, [], _∷_}
@@ -13,10 +13,10 @@ use lib.Dec.{leb}
 use borrow.Author.Tests.{ne-eqb, not-true}
 use Rattle.base.specs.Every.{_and_}
 use Rattle.base.proofs.Everies.{and-both}
-use Rattle.state.specs.Codes.{storeMarkOld, storeMarkY, storeWrite, rootsMark, workFinish, row1Round, row10Look, row10Free, row11Write}
+use Rattle.state.specs.Codes.{storeMarkOld, storeMarkY, storeWrite, rootsMark, workFinish, row1Round, row7Mark, row7Next, row7Drop, row10Look, row10Free, row11Write}
 use Rattle.formed.specs.declared.table.Uses.{Uses}
-use Rattle.formed.specs.Uses.{nothingRow, roundRow, scanRow, scanMarkRow, maxPlaces, usesOf}
-use Rattle.formed.specs.Fits.{amongOf, Among, idlePlaces, plainPlaces, roundPlaces, scanPlaces, scanMarkPlaces}
+use Rattle.formed.specs.Uses.{nothingRow, roundRow, maxPlaces, usesOf}
+use Rattle.formed.specs.Fits.{amongOf, Among, idlePlaces, plainPlaces, roundPlaces}
 
 -- ---- one by one
 abbrev pub AllBelow : (ℕ → Type 0) → ℕ → Type 0
@@ -77,8 +77,9 @@ mutator-place k h = all-below MutatorPlace (suc workFinish) each k (omega arith)
 pub data CollectorPlace (k : ℕ) : Type 0 where
   is-plain : Among k plainPlaces → CollectorPlace k
   is-round : Among k roundPlaces → CollectorPlace k
-  is-scan : Among k scanPlaces → CollectorPlace k
-  is-scan-mark : Among k scanMarkPlaces → CollectorPlace k
+  is-scan-mark : k ≡ row7Mark → CollectorPlace k
+  is-scan : k ≡ row7Next → CollectorPlace k
+  is-drop : k ≡ row7Drop → CollectorPlace k
   is-sweep : k ≡ row10Look → CollectorPlace k
   is-sweep-free : k ≡ row10Free → CollectorPlace k
 
@@ -88,7 +89,7 @@ collector-place k l h =
     rw e at (all-below (λ j. CollectorPlace (row1Round + j)) (maxPlaces - row1Round) each (k - row1Round) (omega arith))
   where
     each : AllBelow (λ j. CollectorPlace (row1Round + j)) (maxPlaces - row1Round)
-    each = ((((((((((((((((((((((tt, is-round refl), is-plain refl), is-plain refl), is-round refl), is-plain refl), is-round refl), is-plain refl), is-plain refl), is-round refl), is-round refl), is-plain refl), is-plain refl), is-scan-mark refl), is-scan refl), is-scan-mark refl), is-scan refl), is-round refl), is-plain refl), is-plain refl), is-sweep refl), is-sweep-free refl), is-plain refl)
+    each = (((((((((((((((((((((tt, is-round refl), is-plain refl), is-plain refl), is-round refl), is-plain refl), is-round refl), is-plain refl), is-plain refl), is-round refl), is-round refl), is-plain refl), is-plain refl), is-scan-mark refl), is-scan refl), is-drop refl), is-round refl), is-plain refl), is-plain refl), is-sweep refl), is-sweep-free refl), is-plain refl)
 
 -- ---- the row of each group
 abbrev Row : Uses → ℕ → Type 0
@@ -103,12 +104,6 @@ uses-plain = all-among (Row nothingRow) plainPlaces (refl, (refl, (refl, (refl, 
 pub uses-round : (k : ℕ) → Among k roundPlaces → usesOf k ≡ roundRow
 uses-round = all-among (Row roundRow) roundPlaces (refl, (refl, (refl, (refl, (refl, (refl, tt))))))
 
-pub uses-scan : (k : ℕ) → Among k scanPlaces → usesOf k ≡ scanRow
-uses-scan = all-among (Row scanRow) scanPlaces (refl, (refl, tt))
-
-pub uses-scan-mark : (k : ℕ) → Among k scanMarkPlaces → usesOf k ≡ scanMarkRow
-uses-scan-mark = all-among (Row scanMarkRow) scanMarkPlaces (refl, (refl, tt))
-
 -- ---- the mutator's places, and the collector's, as the tests have them
 pub idle-mutator : (k : ℕ) → Among k idlePlaces → leb k workFinish ≡ true
 idle-mutator = all-true (λ k. leb k workFinish) idlePlaces refl
@@ -121,9 +116,3 @@ plain-collector = all-true isCollectors plainPlaces refl
 
 pub round-collector : (k : ℕ) → Among k roundPlaces → isCollectors k ≡ true
 round-collector = all-true isCollectors roundPlaces refl
-
-pub scan-collector : (k : ℕ) → Among k scanPlaces → isCollectors k ≡ true
-scan-collector = all-true isCollectors scanPlaces refl
-
-pub scan-mark-collector : (k : ℕ) → Among k scanMarkPlaces → isCollectors k ≡ true
-scan-mark-collector = all-true isCollectors scanMarkPlaces refl

@@ -17,7 +17,7 @@ use Rattle.memory.specs.Memories.{maxCells, maxProcesses, atCell, fieldOf, buff
 use Rattle.memory_formed.specs.WellFormed.{MemoryFormed}
 use Rattle.state.specs.declared.Process.{Process}
 use Rattle.state.specs.declared.State.{State}
-use Rattle.state.specs.Codes.{top, storeMarkOld, storeMarkY, storeWrite, noopFence, noopFinish, rootsFence, rootsMark, rootsFinish, workFence, workFinish, row1Round, row2Read, row2Write, row3Round, row4Write, row4Round, row5Phase, row5Alloc, row5Round, row6Round, row6Take, row7Read0, row7Mark0, row7Read1, row7Mark1, row7Drop, row8Round, row8Take, row9Write, row10Look, row10Free, row11Write, noStage, lookStage, senseStage, phaseStage, unlockStage, raiseStage, pollStage}
+use Rattle.state.specs.Codes.{top, storeMarkOld, storeMarkY, storeWrite, noopFence, noopFinish, rootsFence, rootsMark, rootsFinish, workFence, workFinish, row1Round, row2Read, row2Write, row3Round, row4Write, row4Round, row5Phase, row5Alloc, row5Round, row6Round, row6Take, row7First, row7Mark, row7Next, row7Drop, row8Round, row8Take, row9Write, row10Look, row10Free, row11Write, noStage, lookStage, senseStage, phaseStage, unlockStage, raiseStage, pollStage}
 use Rattle.state.specs.declared.opening.Heap.{Heap}
 use Rattle.state.specs.Openings.{rootsAt}
 use Rattle.state.specs.States.{noPart, noProcess, mutatorsOf, processOf}
@@ -35,19 +35,13 @@ Among k l = amongOf k l ≡ true
 abbrev pub idlePlaces : List ℕ
 idlePlaces = top ∷ noopFence ∷ noopFinish ∷ rootsFence ∷ rootsFinish ∷ workFence ∷ workFinish ∷ []
 
--- the collector's: "A round"; a write, a read of fM, a take, the first read of row 7; the rest of row 7, with its x
+-- the collector's: "A round"; a write, a read of fM, a take, the first read of row 7
 abbrev pub roundPlaces : List ℕ
 roundPlaces = row1Round ∷ row3Round ∷ row4Round ∷ row5Round ∷ row6Round ∷ row8Round ∷ []
 
 abbrev pub plainPlaces : List ℕ
 plainPlaces =
-    row2Read ∷ row2Write ∷ row4Write ∷ row5Phase ∷ row5Alloc ∷ row6Take ∷ row7Read0 ∷ row8Take ∷ row9Write ∷ row11Write ∷ []
-
-abbrev pub scanPlaces : List ℕ
-scanPlaces = row7Read1 ∷ row7Drop ∷ []
-
-abbrev pub scanMarkPlaces : List ℕ
-scanMarkPlaces = row7Mark0 ∷ row7Mark1 ∷ []
+    row2Read ∷ row2Write ∷ row4Write ∷ row5Phase ∷ row5Alloc ∷ row6Take ∷ row7First ∷ row8Take ∷ row9Write ∷ row11Write ∷ []
 
 -- ---- notes that stand together, by their values
 -- those of a running store: "store y (a root or 0) in field f of root x"; "the old value read by a running store (the
@@ -154,17 +148,23 @@ pub record RoundNotes (m : ℕ) (q : Process) : Type 0 where
   pub left : belowOf (q .left) m ≡ true
   pub mark : Unmarked (q .cell) (q .look) (q .grey)
 
--- row 7: x, and the cell that one of its fields names
+-- row 7: x, the fields of it that are not yet scanned, and the cell that one of its fields names
+pub record ScanMark (n : ℕ) (q : Process) : Type 0 where
+  pub is-x : IsCell n (q .x)
+  pub left : belowOf (q .left) maxFields ≡ true
+  pub mark : MarkNotes n (q .stage) (q .cell) (q .look) (q .grey)
+
 pub record Scan (n : ℕ) (q : Process) : Type 0 where
+  pub stage : q .stage ≡ noStage
+  pub is-x : IsCell n (q .x)
+  pub left : belowOf (q .left) maxFields ≡ true
+  pub mark : Unmarked (q .cell) (q .look) (q .grey)
+
+pub record Drop (n : ℕ) (q : Process) : Type 0 where
   pub stage : q .stage ≡ noStage
   pub is-x : IsCell n (q .x)
   pub left : q .left ≡ noCells
   pub mark : Unmarked (q .cell) (q .look) (q .grey)
-
-pub record ScanMark (n : ℕ) (q : Process) : Type 0 where
-  pub is-x : IsCell n (q .x)
-  pub left : q .left ≡ noCells
-  pub mark : MarkNotes n (q .stage) (q .cell) (q .look) (q .grey)
 
 -- row 10: "for each cell number, x naming one left: look at the mark; .. free it, as a further step"
 pub record Sweep (n : ℕ) (q : Process) : Type 0 where
@@ -182,8 +182,9 @@ pub record SweepFree (n : ℕ) (q : Process) : Type 0 where
 pub data CollectorAt (n m : ℕ) (q : Process) : Type 0 where
   plain : Among (q .place) plainPlaces → PlainNotes q → CollectorAt n m q
   round : Among (q .place) roundPlaces → RoundNotes m q → CollectorAt n m q
-  scan : Among (q .place) scanPlaces → Scan n q → CollectorAt n m q
-  scan-mark : Among (q .place) scanMarkPlaces → ScanMark n q → CollectorAt n m q
+  scan-mark : q .place ≡ row7Mark → ScanMark n q → CollectorAt n m q
+  scan : q .place ≡ row7Next → Scan n q → CollectorAt n m q
+  drop : q .place ≡ row7Drop → Drop n q → CollectorAt n m q
   sweep : q .place ≡ row10Look → Sweep n q → CollectorAt n m q
   sweep-free : q .place ≡ row10Free → SweepFree n q → CollectorAt n m q
 

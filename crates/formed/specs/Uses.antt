@@ -14,7 +14,7 @@ ofStore = 1
 abbrev pub aCell : ℕ
 aCell = 2
 
--- what is left to be named: nothing; cells; mutators, while a round raises and polls
+-- what is left to be named: nothing; cells; mutators, while a round raises and polls; the fields of a cell
 abbrev pub nothingLeft : ℕ
 nothingLeft = 0
 
@@ -23,6 +23,9 @@ cellsLeft = 1
 
 abbrev pub mutatorsLeft : ℕ
 mutatorsLeft = 2
+
+abbrev pub fieldsLeft : ℕ
+fieldsLeft = 3
 
 -- the stage: of nothing; of a mark, of the old value, of y, of the cell noted, of one named at its first look; of a
 -- round
@@ -54,12 +57,6 @@ nothingRow = row noNotes nothingLeft unstaged
 abbrev pub roundRow : Uses
 roundRow = row noNotes mutatorsLeft ofRound
 
-abbrev pub scanRow : Uses
-scanRow = row aCell nothingLeft unstaged
-
-abbrev pub scanMarkRow : Uses
-scanMarkRow = row aCell nothingLeft ofCell
-
 abbrev pub usesTable : List Uses
 usesTable =
     nothingRow ∷  -- 0 top
@@ -75,16 +72,16 @@ usesTable =
     nothingRow ∷ roundRow ∷  -- 15, 16 row 4: write phase, round
     nothingRow ∷ nothingRow ∷ roundRow ∷  -- 17, 18, 19 row 5: write phase, write fA, round
     roundRow ∷ nothingRow ∷  -- 20, 21 row 6: round, take
-    nothingRow ∷ scanMarkRow ∷ scanRow ∷ scanMarkRow ∷ scanRow ∷  -- 22 to 26 row 7: read field 0, mark it, read field 1, mark it, drop
-    roundRow ∷ nothingRow ∷  -- 27, 28 row 8: round, take
-    nothingRow ∷  -- 29 row 9
-    row noNotes cellsLeft unstaged ∷ row aCell cellsLeft unstaged ∷  -- 30, 31 row 10: look, free
-    nothingRow ∷  -- 32 row 11
+    nothingRow ∷ row aCell fieldsLeft ofCell ∷ row aCell fieldsLeft unstaged ∷ row aCell nothingLeft unstaged ∷  -- 22 to 25 row 7: first read, mark, next read, drop
+    roundRow ∷ nothingRow ∷  -- 26, 27 row 8: round, take
+    nothingRow ∷  -- 28 row 9
+    row noNotes cellsLeft unstaged ∷ row aCell cellsLeft unstaged ∷  -- 29, 30 row 10: look, free
+    nothingRow ∷  -- 31 row 11
     []
 
--- the mutator's places are 0 to 10, the collector's 11 to 32
+-- the mutator's places are 0 to 10, the collector's 11 to 31
 abbrev pub maxPlaces : ℕ
-maxPlaces = 33
+maxPlaces = 32
 
 abbrev pub usesOf : ℕ → Uses
 usesOf place = getD usesTable place nothingRow

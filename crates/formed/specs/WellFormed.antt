@@ -21,7 +21,7 @@ use Rattle.state.specs.declared.Process.{Process}
 use Rattle.state.specs.declared.State.{State}
 use Rattle.state.specs.Codes.{top, workFinish, row1Round, row11Write, noStage, lookStage, senseStage, phaseStage, unlockStage, raiseStage, pollStage}
 use Rattle.state.specs.States.{noProcess, phaseNumber, mutatorsOf}
-use Rattle.formed.specs.Uses.{ofStore, aCell, cellsLeft, mutatorsLeft, ofOld, ofY, ofCell, ofNamed, ofRound, usesOf}
+use Rattle.formed.specs.Uses.{ofStore, aCell, cellsLeft, mutatorsLeft, fieldsLeft, ofOld, ofY, ofCell, ofNamed, ofRound, usesOf}
 
 -- ---- field values, in memory and pending: "Cells 1..N"; "0 is null"
 abbrev pub fieldFitsAt : ℕ → List ℕ → ℕ → Bool
@@ -64,7 +64,8 @@ leftFitsOf used n m q =
     pick (eqb used cellsLeft) (belowOf (q .left) n)
     (pick (eqb used mutatorsLeft)
     (pick (leb raiseStage (q .stage)) (belowOf (q .left) m) (eqb (q .left) noCells))
-    (eqb (q .left) noCells))
+    (pick (eqb used fieldsLeft) (belowOf (q .left) maxFields)
+    (eqb (q .left) noCells)))
 
 -- ---- the stage, and the notes of a mark: none; of the cell c, the first look from stage 2 and a cell being greyed
 -- at stage 7 alone

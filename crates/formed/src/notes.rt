@@ -54,7 +54,7 @@ pub fn notes_fit(used: u8, n: u8, q: Process) -> bool
     false
 }
 
-// What is left: cells within 1 to n, or, from a round's raising, mutators within 1 to m.
+// What is left: cells within 1 to n; from a round's raising, mutators within 1 to m; fields.
 pub fn left_fits(used: u8, n: u8, m: u8, q: Process) -> bool
     ensures { λ r. ⌜ r ≡ leftFitsOf used n m q ⌝ }
 {
@@ -66,6 +66,9 @@ pub fn left_fits(used: u8, n: u8, m: u8, q: Process) -> bool
             return cells::below(q.left, m);
         }
         return q.left == 0;
+    }
+    if used == Uses::FIELDS_LEFT {
+        return cells::below(q.left, Spot::FIELDS);
     }
     q.left == 0
 }

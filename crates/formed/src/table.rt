@@ -18,13 +18,15 @@ impl Uses {
     pub const CELL: u8 = 2;
 }
 
-// What is left to be named: nothing; cells; mutators, while a round raises and polls.
+// What is left to be named: nothing; cells; mutators, while a round raises and polls; the fields of a cell.
 impl Uses {
     pub const NOTHING_LEFT: u8 = 0;
 
     pub const CELLS_LEFT: u8 = 1;
 
     pub const MUTATORS_LEFT: u8 = 2;
+
+    pub const FIELDS_LEFT: u8 = 3;
 }
 
 // The stage: of nothing; of a mark, of the old value, of y, of the cell noted, of one named at its first look; of a
@@ -79,16 +81,22 @@ const ROUND: Uses = Uses {
     stage: Uses::OF_ROUND,
 };
 
+const SCAN_MARK: Uses = Uses {
+    notes: Uses::CELL,
+    left: Uses::FIELDS_LEFT,
+    stage: Uses::OF_CELL,
+};
+
 const SCAN: Uses = Uses {
     notes: Uses::CELL,
-    left: Uses::NOTHING_LEFT,
+    left: Uses::FIELDS_LEFT,
     stage: Uses::NO_STAGE,
 };
 
-const SCAN_MARK: Uses = Uses {
+const DROP: Uses = Uses {
     notes: Uses::CELL,
     left: Uses::NOTHING_LEFT,
-    stage: Uses::OF_CELL,
+    stage: Uses::NO_STAGE,
 };
 
 const SWEEP: Uses = Uses {
@@ -103,8 +111,8 @@ const SWEEP_FREE: Uses = Uses {
     stage: Uses::NO_STAGE,
 };
 
-// How many places there are: the mutator's 0 to 10, the collector's 11 to 32.
-const PLACES: usize = 33;
+// How many places there are: the mutator's 0 to 10, the collector's 11 to 31.
+const PLACES: usize = 32;
 
 // The mutator's places, and then the collector's rows 1 to 11.
 const USES: [Uses; PLACES] = [
@@ -133,8 +141,7 @@ const USES: [Uses; PLACES] = [
     NOTHING,
     SCAN_MARK,
     SCAN,
-    SCAN_MARK,
-    SCAN,
+    DROP,
     ROUND,
     NOTHING,
     NOTHING,

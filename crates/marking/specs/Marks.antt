@@ -19,19 +19,18 @@ use Rattle.memory.specs.declared.asks.Ask.the-variants as ask
 use Rattle.memory.specs.declared.asks.Change.the-variants as change
 use Rattle.state.specs.declared.Process.{Process}
 use Rattle.state.specs.declared.Choice.{Choice}
-use Rattle.state.specs.Codes.{storeMarkOld, storeMarkY, storeWrite, rootsMark, rootsFinish, row7Mark0, row7Read1, row7Mark1, row7Drop, noStage, lookStage, senseStage, phaseStage, lockStage, againStage, writeStage, unlockStage}
+use Rattle.state.specs.Codes.{storeMarkOld, storeMarkY, storeWrite, rootsMark, rootsFinish, row7Mark, row7Next, row7Drop, noStage, lookStage, senseStage, phaseStage, lockStage, againStage, writeStage, unlockStage}
 use Rattle.state.specs.States.{at, leaving, marking, listing}
 use Rattle.state.specs.Choices.{isBlank, isNaming}
 
--- the sites: a store's old value and its y, a root, and the two fields of row 7
+-- the sites: a store's old value and its y, a root, and a field's value in row 7
 unfoldable pub isSite : ℕ → Bool
 isSite k =
     pick (eqb k storeMarkOld) true
     (pick (eqb k storeMarkY) true
     (pick (eqb k rootsMark) true
-    (pick (eqb k row7Mark0) true
-    (pick (eqb k row7Mark1) true
-    false))))
+    (pick (eqb k row7Mark) true
+    false)))
 
 -- ---- what is offered: "the choice x naming which remaining one at its first look"; else nothing
 unfoldable pub namesRoot : Process → Bool
@@ -122,15 +121,14 @@ stageGo p r v q =
     q))))))
 
 -- where the process goes when the mark of its site is over: "then mark the old; mark y; write the field"; "mark each
--- root"; "read field 0, mark it, read field 1, mark it, drop x"
+-- root"; to "a field not yet scanned", or to the drop
 unfoldable pub pastOf : Process → Process
 pastOf q =
     pick (eqb (q .place) storeMarkOld) (pick (eqb (q .y) 0) (at storeWrite (q .stage) q) (at storeMarkY lookStage q))
     (pick (eqb (q .place) storeMarkY) (at storeWrite (q .stage) q)
     (pick (eqb (q .place) rootsMark) (pick (eqb (q .left) 0) (at rootsFinish (q .stage) q) (onStage lookStage q))
-    (pick (eqb (q .place) row7Mark0) (at row7Read1 (q .stage) q)
-    (pick (eqb (q .place) row7Mark1) (at row7Drop (q .stage) q)
-    q))))
+    (pick (eqb (q .place) row7Mark) (pick (eqb (q .left) 0) (at row7Drop (q .stage) q) (at row7Next (q .stage) q))
+    q)))
 
 -- a mark that is over has no stage
 unfoldable pub pastOver : Process → Process

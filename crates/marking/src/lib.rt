@@ -1,4 +1,4 @@
-// "Marking a cell r": seven steps, at five sites of the two programs. What each step offers, what it asks of memory,
+// "Marking a cell r": seven steps, at four sites of the two programs. What each step offers, what it asks of memory,
 // and how it goes on with what was seen.
 // c is the choice, q the process that makes it.
 use buffers::Phase;
@@ -14,7 +14,7 @@ use state::codes::Stage;
 ghost use mathlib.Core.Path.{_≡_};
 ghost use Rattle.marking.specs.Marks.{isSite, namesRoot, markOffers, markedCell, stageAsk, markAsk, namedRoot, onStage, overOf, isIdle, lookGo, senseGo, phaseGo, againGo, writeGo, unlockGo, stageGo, pastOf, pastOver, markGo};
 
-// The sites: a store's old value and its y, a root, and the two fields of row 7.
+// The sites: a store's old value and its y, a root, and a field's value in row 7.
 pub fn is_site(place: u8) -> bool
     ensures { λ r. ⌜ r ≡ isSite place ⌝ }
 {
@@ -22,8 +22,7 @@ pub fn is_site(place: u8) -> bool
         Place::STORE_MARK_OLD => true,
         Place::STORE_MARK_Y => true,
         Place::ROOTS_MARK => true,
-        Place::ROW7_MARK0 => true,
-        Place::ROW7_MARK1 => true,
+        Place::ROW7_MARK => true,
         _ => false,
     }
 }
@@ -216,8 +215,8 @@ fn stage_go(p: u8, cell: u8, seen: Store, q: Process) -> Process
 }
 
 // Where the process goes when the mark of its site is over, or where there is nothing to mark: "then mark the old;
-// mark y; write the field"; to the next root, or to the end of the answer; "read field 0, mark it, read field 1, mark
-// it, drop x".
+// mark y; write the field"; to the next root, or to the end of the answer; to "a field not yet scanned", or to the
+// drop.
 pub fn past(mut q: Process) -> Process
     ensures { λ r. ⌜ r ≡ pastOf q ⌝ }
 {
@@ -244,12 +243,12 @@ pub fn past(mut q: Process) -> Process
             q.stage = MarkStage::LOOK;
             q
         }
-        Place::ROW7_MARK0 => {
-            q.place = Place::ROW7_READ1;
-            q
-        }
-        Place::ROW7_MARK1 => {
-            q.place = Place::ROW7_DROP;
+        Place::ROW7_MARK => {
+            if q.left == 0 {
+                q.place = Place::ROW7_DROP;
+                return q;
+            }
+            q.place = Place::ROW7_NEXT;
             q
         }
         _ => q,

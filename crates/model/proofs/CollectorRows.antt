@@ -22,23 +22,24 @@ use Rattle.state.specs.declared.RoundType.{RoundType}
 use Rattle.state.specs.declared.Process.{Process}
 use Rattle.state.specs.declared.State.{State}
 use Rattle.state.specs.declared.Choice.{Choice}
-use Rattle.state.specs.Codes.{row10Look, row11Write, noStage}
+use Rattle.state.specs.Codes.{row7Mark, row10Look, row11Write, noStage}
 use Rattle.state.specs.States.{at, noting, leaving, processOf, withProcess, withMemory, takenOf}
+use Rattle.state.specs.Choices.{allFields, fieldLeft}
 use Rattle.state.specs.Acts.{advanceOf, typed, raisedOf, settingOf, goingOn}
-use Rattle.marking.specs.Marks.{isSite, markedCell}
+use Rattle.marking.specs.Marks.{isSite, markedCell, pastOf}
 use Rattle.rounds.specs.Rounds.{roundOffers, roundAsk, raising, polling, pollGo, roundGo}
-use Rattle.collector.specs.Collectors.{isRound, rowOffers, collectorOffers, rowAsk, collectorAsk, sensed, flipped, taking, scanning, dropping, sweepFrom, sweeping, swept, rowGo, listGo, collectorGo}
+use Rattle.collector.specs.Collectors.{isRound, rowOffers, collectorOffers, rowAsk, collectorAsk, sensed, flipped, taking, othersOf, scanning, dropping, sweepFrom, sweeping, swept, rowGo, listGo, collectorGo}
 use Rattle.model.specs.Offers.{OnlyX}
 use Rattle.model.specs.Reasons.{mover}
-use Rattle.model.specs.Rows.{At, findsFree, findsMark, Marks, old, new, root, first, second, Advance, noop, roots, work, flagged, Collector, fences, types, raises, raises-last, polls-up, polls, polls-last, reads-sense, writes-sense, writes-init, writes-mark, writes-alloc, takes, takes-none, reads-first, reads-first-null, marks, reads-second, reads-second-null, drops, drops-last, writes-sweep, spares, spares-last, condemns, frees, frees-last, writes-idle}
-use Rattle.model.proofs.Offering.{bare-blank, one-naming}
+use Rattle.model.specs.Rows.{At, findsFree, findsMark, Marks, old, new, root, field, Advance, noop, roots, work, flagged, Collector, fences, types, raises, raises-last, polls-up, polls, polls-last, reads-sense, writes-sense, writes-init, writes-mark, writes-alloc, takes, takes-none, reads-first, reads-first-null, marks, reads-next, reads-next-null, reads-last-null, drops, drops-last, writes-sweep, spares, spares-last, condemns, frees, frees-last, writes-idle}
+use Rattle.model.proofs.Offering.{bare-blank, one-naming, first-scanning, next-scanning}
 use Rattle.model.proofs.Lists.{all-off}
 use Rattle.own.specs.Owns.{ownOffers, ownAsk, ownGo}
 use Rattle.model.proofs.Road.{ownOf}
 use Rattle.model.proofs.Marks.{mark-row}
 use Rattle.model.proofs.Places.{stands, toldAt, goneAt, place-row}
 use Rattle.model.proofs.Rounds.{Collecting, round-row}
-use Rattle.model.proofs.Collectors.{spared, Scanning, scan-cell, scan-site}
+use Rattle.model.proofs.Collectors.{spared, other-left, scan-cell, scan-site}
 
 advances : {t : RoundType} {g h : Handshake} → Advance t g h → advanceOf t g ≡ h
 advances noop = refl
@@ -72,17 +73,16 @@ module _ (s : State) (c : Choice) (z : Collecting s c) where
   spare-row a o i (inl e) g = plain-row a (one-naming c (q .left) o i) (rw e refl) (rw e g)
   spare-row a o i (inr e) g = plain-row a (one-naming c (q .left) o i) (rw e refl) (rw (e, bit-same (q .sense)) g)
 
-  -- ---- row 7's marks
-  scans : {r : ℕ} → Marks q r → Scanning s c z × (markedCell c q ≡ r)
+  -- ---- row 7's mark
+  scans : {r : ℕ} → Marks q r → (q .place ≡ row7Mark) × (markedCell c q ≡ r)
   scans (old e) = absurd (omega (arith, z .first))
   scans (new e) = absurd (omega (arith, z .first))
   scans (root e) = absurd (omega (arith, z .first))
-  scans (first e) = (inl e, scan-cell s c z (inl e))
-  scans (second e) = (inr e, scan-cell s c z (inr e))
+  scans (field e) = (e, scan-cell s c z e)
 
   -- ---- each row
   row-answer : {t : State} → Collector s c (c .process) q t → ownOf s c ≡ takenOf t
-  unfolding ownOffers ownAsk ownGo isSite isRound collectorOffers collectorAsk collectorGo rowOffers rowAsk rowGo listGo sensed flipped taking scanning dropping sweepFrom sweeping swept sweptSight roundOffers roundAsk roundGo typed raising raisedOf polling pollGo
+  unfolding ownOffers ownAsk ownGo isSite isRound collectorOffers collectorAsk collectorGo rowOffers rowAsk rowGo listGo sensed flipped taking scanning othersOf pastOf dropping sweepFrom sweeping swept sweptSight roundOffers roundAsk roundGo typed raising raisedOf polling pollGo
   row-answer (fences r a b e) = round-row s c r a (bare-blank c b) (ap (λ (d : Done). d .no) e) refl
   row-answer (types r a b v) = round-row s c r a (bare-blank c b) refl (rw (all-off (s .procs) (z .processes), advances v) refl)
   row-answer (raises r a o i n) = round-row s c r a (one-naming c (q .left) o i) refl (rw (ne-eqb left noCells n) (ap (λ (u : Process). goes (withProcess s (c .x) (flagged (processOf s (c .x)))) (leaving left u)) (sym (stands q a))))
@@ -99,11 +99,16 @@ module _ (s : State) (c : Choice) (z : Collecting s c) where
   row-answer (takes (inr a) b n) = plain-row a (bare-blank c b) refl (rw (ne-eqb (s .system .work) 0 n) refl)
   row-answer (takes-none (inl a) b n) = plain-row a (bare-blank c b) refl (rw n refl)
   row-answer (takes-none (inr a) b n) = plain-row a (bare-blank c b) refl (rw n refl)
-  row-answer (reads-first a o i {v = v} e n) = let k = field-told (s .memory) (c .process) (c .x) 0 e in plain-row a (one-naming c (q .work) o i) (k .no) (rw (k .value, ne-eqb v 0 n) refl)
-  row-answer (reads-first-null a o i e) = let k = field-told (s .memory) (c .process) (c .x) 0 e in plain-row a (one-naming c (q .work) o i) (k .no) (rw (k .value) refl)
+  row-answer (reads-first a o {v = v} e n) = let k = field-told (s .memory) (c .process) (c .x) (c .f) e in plain-row a (first-scanning c (q .work) o) (k .no) (rw (k .value, ne-eqb v 0 n) refl)
+  row-answer (reads-first-null a o e) =
+      let k = field-told (s .memory) (c .process) (c .x) (c .f) e in
+      plain-row a (first-scanning c (q .work) o) (k .no) (rw (k .value, ne-eqb (removeOf allFields (fieldLeft (c .f))) 0 (other-left (c .f) (o .field))) refl)
   row-answer (marks b k x) = let w = scans k in mark-row s c (scan-site s c z (w .0)) b (rw (w .1) x)
-  row-answer (reads-second a b {v = v} e n) = let k = field-told (s .memory) (c .process) (q .x) 1 e in plain-row a (bare-blank c b) (k .no) (rw (k .value, ne-eqb v 0 n) refl)
-  row-answer (reads-second-null a b e) = let k = field-told (s .memory) (c .process) (q .x) 1 e in plain-row a (bare-blank c b) (k .no) (rw (k .value) refl)
+  row-answer (reads-next a o {v = v} e n) = let k = field-told (s .memory) (c .process) (q .x) (c .f) e in plain-row a (next-scanning c (q .left) o) (k .no) (rw (k .value, ne-eqb v 0 n) refl)
+  row-answer (reads-next-null a o e n) =
+      let k = field-told (s .memory) (c .process) (q .x) (c .f) e in
+      plain-row a (next-scanning c (q .left) o) (k .no) (rw (k .value, ne-eqb (removeOf (q .left) (fieldLeft (c .f))) 0 n) refl)
+  row-answer (reads-last-null a o e n) = let k = field-told (s .memory) (c .process) (q .x) (c .f) e in plain-row a (next-scanning c (q .left) o) (k .no) (rw (k .value, n) refl)
   row-answer (drops a b n) = plain-row a (bare-blank c b) refl (rw (ne-eqb (removeOf (q .work) (q .x)) 0 n) refl)
   row-answer (drops-last a b n) = plain-row a (bare-blank c b) refl (rw n refl)
   row-answer (writes-sweep a b e) = make-row a (bare-blank c b) refl e refl

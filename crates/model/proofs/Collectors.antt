@@ -1,17 +1,20 @@
 -- The collector: each answer is a refusal for the first reason or a row. Assumes nothing.
 --     spared                               a look of the sweep that frees nothing
---     Scanning, scan-cell, scan-site       row 7's marks as sites
+--     scan-cell, scan-site                 row 7's mark as a site
+--     other-left                           past the first field read there is another
 --     collector-view                       the view of its step
 use mathlib.Core.Path.{_≡_, refl, sym, ap, _∙_, subst}
 use mathlib.Core.Bool.{true, false}
 use mathlib.Core.Logic.{_⊎_, inl, inr}
-use Prim.Native.Nat.{ℕ}
+use Prim.Native.Nat.{ℕ, zero, suc, _<_}
 use native.Mathlib.Omega.{arith}
 use Rattle.base.specs.Pick.{sameBit}
 use Rattle.base.proofs.Picking.{pick-ind, pick-no}
 use Rattle.base.proofs.Bits.{same-bit, other-bit}
 use Rattle.base.specs.Refusals.{asTaken}
 use Rattle.cells.specs.Sets.{noCells, Member, removeOf}
+use Rattle.cells.proofs.Members.{not-empty, remove-keeps, full-has}
+use Rattle.buffers.specs.Fits.{maxFields}
 use Rattle.memory.specs.declared.Memory.{Memory}
 use Rattle.memory.specs.Memories.{taken}
 use Rattle.memory.specs.Looks.{lookSenseOf, lookFieldOf, lookSweptOf}
@@ -21,11 +24,12 @@ use Rattle.memory.proofs.Effects.{is-taken}
 use Rattle.state.specs.declared.Process.{Process}
 use Rattle.state.specs.declared.State.{State}
 use Rattle.state.specs.declared.Choice.{Choice}
-use Rattle.state.specs.Codes.{row1Round, row2Read, row2Write, row3Round, row4Write, row4Round, row5Phase, row5Alloc, row5Round, row6Round, row6Take, row7Read0, row7Mark0, row7Read1, row7Mark1, row7Drop, row8Round, row8Take, row9Write, row10Look, row10Free, row11Write, noStage}
+use Rattle.state.specs.Codes.{row1Round, row2Read, row2Write, row3Round, row4Write, row4Round, row5Phase, row5Alloc, row5Round, row6Round, row6Take, row7First, row7Mark, row7Next, row7Drop, row8Round, row8Take, row9Write, row10Look, row10Free, row11Write, noStage}
 use Rattle.state.specs.States.{at, noting, leaving, listing, processOf, withProcess, withMemory, withSystem}
-use Rattle.marking.specs.Marks.{isSite, namesRoot, markedCell}
-use Rattle.collector.specs.Collectors.{isRound, rowOffers, collectorOffers, rowAsk, collectorAsk, sensed, flipped, taking, scanning, dropping, sweepFrom, sweeping, swept, rowGo, listGo, collectorGo}
-use Rattle.model.specs.Offers.{Bare, OnlyX, AmongOffered, markPlace, roundPlace, offerOf}
+use Rattle.state.specs.Choices.{allFields, fieldLeft}
+use Rattle.marking.specs.Marks.{isSite, namesRoot, markedCell, pastOf}
+use Rattle.collector.specs.Collectors.{isRound, rowOffers, collectorOffers, rowAsk, collectorAsk, sensed, flipped, taking, othersOf, scanning, dropping, sweepFrom, sweeping, swept, rowGo, listGo, collectorGo}
+use Rattle.model.specs.Offers.{Bare, OnlyX, Scans, ScansOn, AmongOffered, markPlace, roundPlace, offerOf}
 use Rattle.model.specs.Deeds.{rowDeed, deedOf}
 use Rattle.model.specs.Reasons.{mover}
 use Rattle.model.specs.Rows as row
@@ -36,12 +40,18 @@ use Rattle.model.proofs.Standing.{placed}
 use Rattle.own.specs.Owns.{ownOffers, ownAsk, ownGo}
 use Rattle.model.proofs.Road.{ownOf, deedFor, isOwn}
 use Rattle.model.proofs.Marks.{Site, site, mark-view}
-use Rattle.model.proofs.Places.{Test, blank, naming, stands, toldAt, goneAt, place-view}
+use Rattle.model.proofs.Places.{Test, blank, naming, first-read, next-read, stands, toldAt, goneAt, place-view}
 use Rattle.model.proofs.Rounds.{Collecting, from, round-view}
 
 -- row 10 has no x noted where it looks: a look that frees nothing changes but what is left
 pub spared : (q : Process) → At row10Look noStage q → q .x ≡ 0 → (l : ℕ) → leaving l q ≡ at row10Look noStage (noting 0 (q .f) (q .y) (q .old) (leaving l q))
 spared q a n l = ap (leaving l) (stands q a) ∙ ap (λ (x : ℕ). at row10Look noStage (noting x (q .f) (q .y) (q .old) (leaving l q))) n
+
+-- past the first field read there is another
+pub other-left : (f : ℕ) → f < maxFields → removeOf allFields (fieldLeft f) ≡ noCells → ⊥
+other-left zero l e = not-empty (removeOf allFields 1) 2 (remove-keeps allFields 1 2 (full-has maxFields 2 (omega arith) (omega arith) (omega arith)) (λ h. omega (arith, h))) e
+other-left (suc zero) l e = not-empty (removeOf allFields 2) 1 (remove-keeps allFields 2 1 (full-has maxFields 1 (omega arith) (omega arith) (omega arith)) (λ h. omega (arith, h))) e
+other-left (suc (suc f)) l e = absurd (omega arith)
 
 module _ (s : State) (c : Choice) (z : Collecting s c) where
   abbrev q : Process
@@ -68,13 +78,19 @@ module _ (s : State) (c : Choice) (z : Collecting s c) where
       (λ n. subst (λ (l : ℕ). Goes emptied (at row9Write noStage (listing l (q .roots) q))) (sym n) (row.takes-none a b n))
       (λ n. row.takes a b n)
 
-  first-row : At row7Read0 noStage q → OnlyX c → Member (q .work) (c .x) → (v : ℕ) → lookFieldOf (s .memory) (c .process) (c .x) 0 ≡ seesValue v → Goes s (scanning (c .x) v row7Mark0 row7Read1 (at row7Read0 noStage q))
-  unfolding scanning
-  first-row a o i v e = pick-no (Goes s) v 0 (λ n. row.reads-first-null a o i (e ∙ ap seesValue n)) (λ n. row.reads-first a o i e n)
+  first-row : At row7First noStage q → Scans c (q .work) → (v : ℕ) → lookFieldOf (s .memory) (c .process) (c .x) (c .f) ≡ seesValue v → Goes s (scanning (c .x) (othersOf allFields c) v (at row7First noStage q))
+  unfolding scanning othersOf pastOf
+  first-row a o v e =
+      pick-no (Goes s) v 0
+      (λ n. pick-no (Goes s) (removeOf allFields (fieldLeft (c .f))) 0 (λ l. absurd (other-left (c .f) (o .field) l)) (λ l. row.reads-first-null a o (e ∙ ap seesValue n)))
+      (λ n. row.reads-first a o e n)
 
-  second-row : At row7Read1 noStage q → Bare c → (v : ℕ) → lookFieldOf (s .memory) (c .process) (q .x) 1 ≡ seesValue v → Goes s (scanning (q .x) v row7Mark1 row7Drop (at row7Read1 noStage q))
-  unfolding scanning
-  second-row a b v e = pick-no (Goes s) v 0 (λ n. row.reads-second-null a b (e ∙ ap seesValue n)) (λ n. row.reads-second a b e n)
+  next-row : At row7Next noStage q → ScansOn c (q .left) → (v : ℕ) → lookFieldOf (s .memory) (c .process) (q .x) (c .f) ≡ seesValue v → Goes s (scanning (q .x) (othersOf (q .left) c) v (at row7Next noStage q))
+  unfolding scanning othersOf pastOf
+  next-row a o v e =
+      pick-no (Goes s) v 0
+      (λ n. pick-no (Goes s) (removeOf (q .left) (fieldLeft (c .f))) 0 (λ l. rw l (row.reads-last-null a o (e ∙ ap seesValue n) l)) (λ l. row.reads-next-null a o (e ∙ ap seesValue n) l))
+      (λ n. row.reads-next a o e n)
 
   drop-row : At row7Drop noStage q → Bare c → Goes s (dropping (removeOf (q .work) (q .x)) (at row7Drop noStage q))
   unfolding dropping
@@ -104,26 +120,18 @@ module _ (s : State) (c : Choice) (z : Collecting s c) where
         (λ t. row.condemns a o i (f ∙ ap findsMark (sym (other-bit (q .sense) (l .bit) t)))))
         (λ u. spare-row (inl (swept-free (s .memory) (c .process) (c .x) n u)))
 
-  -- ---- row 7's marks
-  abbrev pub Scanning : Type 0
-  Scanning = (q .place ≡ row7Mark0) ⊎ (q .place ≡ row7Mark1)
+  -- ---- row 7's mark
+  module _ (e : q .place ≡ row7Mark) where
+    pub scan-cell : markedCell c q ≡ q .cell
+    unfolding markedCell namesRoot
+    scan-cell = placed (markedCell c) q e
 
-  scanned : Scanning → Marks q (q .cell)
-  scanned (inl e) = row.first e
-  scanned (inr e) = row.second e
+    pub scan-site : Site s c
+    unfolding isSite namesRoot offerOf
+    scan-site = site s c (z .kind) (z .standing) (z .buffered) (rw e refl) (rw e refl) (placed namesRoot q e) (placed offerOf q e)
 
-  pub scan-cell : Scanning → markedCell c q ≡ q .cell
-  unfolding markedCell namesRoot
-  scan-cell (inl e) = placed (markedCell c) q e
-  scan-cell (inr e) = placed (markedCell c) q e
-
-  pub scan-site : Scanning → Site s c
-  unfolding isSite namesRoot offerOf
-  scan-site (inl e) = site s c (z .kind) (z .standing) (z .buffered) (rw e refl) (rw e refl) (placed namesRoot q e) (placed offerOf q e)
-  scan-site (inr e) = site s c (z .kind) (z .standing) (z .buffered) (rw e refl) (rw e refl) (placed namesRoot q e) (placed offerOf q e)
-
-  scan-view : Scanning → Out
-  scan-view a = mark-view s c (scan-site a) Rows (λ n t b m. row.marks b (subst (Marks q) (sym (scan-cell a)) (scanned a)) m)
+    scan-view : Out
+    scan-view = mark-view s c scan-site Rows (λ n t b m. row.marks b (subst (Marks q) (sym scan-cell) (row.field e)) m)
 
   -- ---- at a place with no stages: left is its row
   plain-view : {k : ℕ} → markPlace k ≡ false → roundPlace k ≡ false → Test c (offerOf (at k noStage q)) (ownOffers (s .memory .cells) c (at k noStage q)) → deedOf c (at k noStage q) ≡ deedFor (ownAsk c (at k noStage q))
@@ -147,10 +155,9 @@ module _ (s : State) (c : Choice) (z : Collecting s c) where
       (λ l. from (q .place) row5Round l (round-view s c row.row5 z)
       (λ l. from (q .place) row6Round l (round-view s c row.row6 z)
       (λ l. from (q .place) row6Take l (plain-view refl refl blank refl refl (λ a b n. takes-row (inl a) b row6Take))
-      (λ l. from (q .place) row7Read0 l (plain-view refl refl (naming (q .work)) refl refl (λ a i n. first-row a (i .0) (i .1) _ (value-seen (lookFieldOf (s .memory) (c .process) (c .x) 0) n)))
-      (λ l. from (q .place) row7Mark0 l (λ e. scan-view (inl e))
-      (λ l. from (q .place) row7Read1 l (plain-view refl refl blank refl refl (λ a b n. second-row a b _ (value-seen (lookFieldOf (s .memory) (c .process) (q .x) 1) n)))
-      (λ l. from (q .place) row7Mark1 l (λ e. scan-view (inr e))
+      (λ l. from (q .place) row7First l (plain-view refl refl (first-read (q .work)) refl refl (λ a i n. first-row a i _ (value-seen (lookFieldOf (s .memory) (c .process) (c .x) (c .f)) n)))
+      (λ l. from (q .place) row7Mark l scan-view
+      (λ l. from (q .place) row7Next l (plain-view refl refl (next-read (q .left)) refl refl (λ a i n. next-row a i _ (value-seen (lookFieldOf (s .memory) (c .process) (q .x) (c .f)) n)))
       (λ l. from (q .place) row7Drop l (plain-view refl refl blank refl refl (λ a b n. drop-row a b))
       (λ l. from (q .place) row8Round l (round-view s c row.row8 z)
       (λ l. from (q .place) row8Take l (plain-view refl refl blank refl refl (λ a b n. takes-row (inr a) b row8Take))
@@ -158,7 +165,7 @@ module _ (s : State) (c : Choice) (z : Collecting s c) where
       (λ l. from (q .place) row10Look l (plain-view refl refl (naming (q .left)) refl refl (λ a i n. sweep-row a (i .0) (i .1) n))
       (λ l. from (q .place) row10Free l (plain-view refl refl blank refl refl (λ a b n. free-row a b _ (is-taken _ n)))
       (λ l. from (q .place) row11Write l (plain-view refl refl blank refl refl (λ a b n. row.writes-idle a b (is-taken _ n)))
-      (λ l. absurd (omega (arith, z .last))))))))))))))))))))))))
+      (λ l. absurd (omega (arith, z .last)))))))))))))))))))))))
 
 pub collector-view : (s : State) (c : Choice) → c .process ≡ 0 → Collecting s c → View (Collector s c 0 (processOf s 0)) s c (ownOf s c)
 collector-view s c e z = subst (λ (p : ℕ). View (Collector s c p (processOf s p)) s c (ownOf s c)) e (own-view s c z)

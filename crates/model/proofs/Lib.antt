@@ -14,3 +14,4 @@ pub mod Rounds
 pub mod Collectors
 pub mod CollectorRows
 pub mod Commits
+pub mod Scans

@@ -33,7 +33,7 @@ use Rattle.memory.proofs.Tellings.{mark-told, sense-told, phase-told}
 use Rattle.state.specs.declared.Process.{Process}
 use Rattle.state.specs.declared.State.{State}
 use Rattle.state.specs.declared.Choice.{Choice}
-use Rattle.state.specs.Codes.{top, storeMarkOld, storeMarkY, rootsMark, row7Mark0, row7Mark1, noStage, lookStage, senseStage, phaseStage, lockStage, againStage, writeStage, unlockStage}
+use Rattle.state.specs.Codes.{top, storeMarkOld, storeMarkY, rootsMark, row7Mark, noStage, lookStage, senseStage, phaseStage, lockStage, againStage, writeStage, unlockStage}
 use Rattle.state.specs.States.{at, marking, listing, withProcess, withMemory, takenOf}
 use Rattle.state.specs.Choices.{isBlank}
 use Rattle.marking.specs.Marks.{isSite, namesRoot, markOffers, markedCell, stageAsk, markAsk, namedRoot, overOf, isIdle, lookGo, senseGo, phaseGo, againGo, writeGo, unlockGo, stageGo, pastOf, pastOver, markGo}
@@ -53,9 +53,9 @@ use Rattle.own.specs.Owns.{ownOffers, ownAsk, ownGo}
 use Rattle.model.proofs.Road.{toldBy, goneOn, ownOf, deedFor, isOwn, step-view, own-goes}
 
 -- ---- past a mark
-no-site : {k : ℕ} → (k ≡ storeMarkOld → ⊥) → (k ≡ storeMarkY → ⊥) → (k ≡ rootsMark → ⊥) → (k ≡ row7Mark0 → ⊥) → (k ≡ row7Mark1 → ⊥) → isSite k ≡ false
+no-site : {k : ℕ} → (k ≡ storeMarkOld → ⊥) → (k ≡ storeMarkY → ⊥) → (k ≡ rootsMark → ⊥) → (k ≡ row7Mark → ⊥) → isSite k ≡ false
 unfolding isSite
-no-site {k} a b d e f = rw (ne-eqb k storeMarkOld a, ne-eqb k storeMarkY b, ne-eqb k rootsMark d, ne-eqb k row7Mark0 e, ne-eqb k row7Mark1 f) refl
+no-site {k} a b d e = rw (ne-eqb k storeMarkOld a, ne-eqb k storeMarkY b, ne-eqb k rootsMark d, ne-eqb k row7Mark e) refl
 
 pub past-next : (w : Process) → isSite (w .place) ≡ true → Next w (pastOf (at (w .place) noStage w))
 unfolding pastOf
@@ -64,9 +64,8 @@ past-next w t =
     (λ a. pick-no (Next w) (w .place) storeMarkY (λ e. row.marked e)
     (λ b. pick-no (Next w) (w .place) rootsMark
     (λ e. pick-no (Next w) (w .left) 0 (λ i. row.roots e i) (λ i. subst (λ (k : ℕ). Next w (at k lookStage w)) (sym e) (row.root e i)))
-    (λ d. pick-no (Next w) (w .place) row7Mark0 (λ e. row.first e)
-    (λ f. pick-no (Next w) (w .place) row7Mark1 (λ e. row.second e)
-    (λ g. absurd (false≢true (sym (no-site a b d f g) ∙ t)))))))
+    (λ d. pick-no (Next w) (w .place) row7Mark (λ e. pick-no (Next w) (w .left) 0 (λ i. row.fields e i) (λ i. row.field e i))
+    (λ f. absurd (false≢true (sym (no-site a b d f) ∙ t))))))
 
 pub next-past : {w t : Process} → Next w t → pastOf (at (w .place) noStage w) ≡ t
 unfolding pastOf
@@ -75,8 +74,8 @@ next-past {w} (row.new e i) = simp (e, ne-eqb (w .y) 0 i)
 next-past (row.marked e) = simp e
 next-past {w} (row.roots e i) = simp (e, i)
 next-past {w} (row.root e i) = simp (e, ne-eqb (w .left) 0 i)
-next-past (row.first e) = simp e
-next-past (row.second e) = simp e
+next-past {w} (row.fields e i) = simp (e, i)
+next-past {w} (row.field e i) = simp (e, ne-eqb (w .left) 0 i)
 
 -- ---- what the code's words say
 over-is : (p : ℕ) (q : Process) → overOf p q ≡ at (q .place) noStage (unnoted p q)

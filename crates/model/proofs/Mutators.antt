@@ -180,8 +180,7 @@ module _ (s : State) (c : Choice) (z : Mutating s c) where
   marks-row b h (row.old e) {n} {t} m = mark-row s c (old-site e) b (subst (λ (r : ℕ). Mark (s .memory) (c .process) r (mover s c) n t) (sym (old-cell e)) m)
   marks-row b h (row.new e) {n} {t} m = mark-row s c (y-site e) b (subst (λ (r : ℕ). Mark (s .memory) (c .process) r (mover s c) n t) (sym (y-cell e)) m)
   marks-row b h (row.root e) {n} {t} m = mark-row s c (root-site e (h e)) b (subst (λ (r : ℕ). Mark (s .memory) (c .process) r (mover s c) n t) (sym (root-cell e (h e))) m)
-  marks-row b h (row.first e) m = absurd (omega (arith, z .place))
-  marks-row b h (row.second e) m = absurd (omega (arith, z .place))
+  marks-row b h (row.field e) m = absurd (omega (arith, z .place))
 
   pub told-fence : fenceOf (s .memory) (c .process) ≡ taken (s .memory) → toldBy s c ask.Fence .no ≡ 0
   told-fence e = ap (λ (d : Done). d .no) e

@@ -1,5 +1,4 @@
--- A step at a known place and stage that offers nothing, or x from a set: its view and its row, from the tables read
--- there. Assumes nothing.
+-- A step at a known place and stage, but for top: its view and its row, from the tables read there. Assumes nothing.
 --     Test                the code's test of such an offer
 --     stands              a process that is at a place and stage, put there, is itself
 --     toldAt, goneAt      what a process there is told by memory, and the state that it goes on to
@@ -17,7 +16,7 @@ use Rattle.state.specs.declared.State.{State}
 use Rattle.state.specs.declared.Choice.{Choice}
 use Rattle.state.specs.Codes.{top}
 use Rattle.state.specs.States.{at, withMemory, takenOf}
-use Rattle.state.specs.Choices.{isBlank, isNaming}
+use Rattle.state.specs.Choices.{isBlank, isNaming, isScanning, isScanningOn}
 use Rattle.state.specs.Acts.{settingOf, wentOf}
 use Rattle.mutator.specs.Mutators.{flagWaits}
 use Rattle.model.specs.Offers as offer
@@ -27,15 +26,17 @@ use Rattle.model.specs.Reasons.{mover}
 use Rattle.model.specs.Rows.{At}
 use Rattle.model.specs.Views.{View}
 use Rattle.model.proofs.Numbers.{Buffered}
-use Rattle.model.proofs.Offering.{blank-bare, bare-blank, naming-one, one-naming, among, amid, no-flag}
+use Rattle.model.proofs.Offering.{blank-bare, bare-blank, naming-one, one-naming, scanning-first, first-scanning, scanning-next, next-scanning, among, amid, no-flag}
 use Rattle.model.proofs.Standing.{staged}
 use Rattle.own.specs.Owns.{ownOffers, ownAsk, ownGo}
 use Rattle.model.proofs.Road.{toldBy, ownOf, deedFor, isOwn, step-view, own-goes}
 
--- what the code tests where nothing is offered, and where x is named from l
+-- what the code tests where nothing is offered; where x is named from l; at row 7's reads
 pub data Test (c : Choice) : Offer → Bool → Type 0 where
   blank : Test c offer.nothing (isBlank c)
   naming : (l : ℕ) → Test c (offer.oneOf l) (isNaming c l)
+  first-read : (l : ℕ) → Test c (offer.scan l) (isScanning c l)
+  next-read : (l : ℕ) → Test c (offer.field l) (isScanningOn c l)
 
 pub stands : {k j : ℕ} (q : Process) → At k j q → q ≡ at k j q
 stands q h = staged (λ q. q) q (h .place) (h .stage)
@@ -54,10 +55,14 @@ module _ (s : State) (c : Choice) where
   passes : {o : Offer} {t : Bool} → Test c o t → t ≡ true → Within o
   passes blank e = blank-bare c e
   passes (naming l) e = naming-one c l e
+  passes (first-read l) e = scanning-first c l e
+  passes (next-read l) e = scanning-next c l e
 
   within : {o : Offer} {t : Bool} → Test c o t → Within o → t ≡ true
   within blank b = bare-blank c b
   within (naming l) i = one-naming c l (i .0) (i .1)
+  within (first-read l) i = first-scanning c l i
+  within (next-read l) i = next-scanning c l i
 
   module _ {k j : ℕ} (h : At k j (mover s c)) (l : 0 < k) where
     abbrev here : Process

@@ -11,7 +11,7 @@ use Rattle.buffers.specs.declared.Spot.{Spot}
 use Rattle.buffers.specs.declared.Spot.the-variants as spot
 use Rattle.state.specs.declared.Process.{Process}
 use Rattle.state.specs.declared.Choice.{Choice}
-use Rattle.state.specs.Codes.{top, storeMarkOld, storeMarkY, storeWrite, noopFence, rootsFence, rootsMark, workFence, row2Read, row2Write, row4Write, row5Phase, row5Alloc, row7Read0, row7Read1, row9Write, row10Look, row10Free, row11Write, lookStage, senseStage, phaseStage, lockStage, againStage, writeStage, fenceStage}
+use Rattle.state.specs.Codes.{top, storeMarkOld, storeMarkY, storeWrite, noopFence, rootsFence, rootsMark, workFence, row2Read, row2Write, row4Write, row5Phase, row5Alloc, row7First, row7Next, row9Write, row10Look, row10Free, row11Write, lookStage, senseStage, phaseStage, lockStage, againStage, writeStage, fenceStage}
 use Rattle.model.specs.Offers.{markPlace, roundPlace}
 
 pub data Deed : Type 0 where
@@ -66,8 +66,8 @@ rowDeed c q =
     (pick (eqb (q .place) row4Write) (writes (store.Phase phase.Init))
     (pick (eqb (q .place) row5Phase) (writes (store.Phase phase.Mark))
     (pick (eqb (q .place) row5Alloc) (writes (store.AllocSense (q .sense)))
-    (pick (eqb (q .place) row7Read0) (reads (spot.Field (c .x) 0))
-    (pick (eqb (q .place) row7Read1) (reads (spot.Field (q .x) 1))
+    (pick (eqb (q .place) row7First) (reads (spot.Field (c .x) (c .f)))
+    (pick (eqb (q .place) row7Next) (reads (spot.Field (q .x) (c .f)))
     (pick (eqb (q .place) row9Write) (writes (store.Phase phase.Sweep))
     (pick (eqb (q .place) row10Look) (sweeps (c .x))
     (pick (eqb (q .place) row10Free) (frees (q .x))

@@ -3,3 +3,4 @@ pub mod Deeds
 pub mod Rows
 pub mod Reasons
 pub mod Views
+pub mod Scans

@@ -28,9 +28,10 @@ use Rattle.state.specs.declared.Process.{Process}
 use Rattle.state.specs.declared.System.{System}
 use Rattle.state.specs.declared.State.{State}
 use Rattle.state.specs.declared.Choice.{Choice}
-use Rattle.state.specs.Codes.{top, storeMarkOld, storeMarkY, storeWrite, noopFence, noopFinish, rootsFence, rootsMark, rootsFinish, workFence, workFinish, row1Round, row2Read, row2Write, row3Round, row4Write, row4Round, row5Phase, row5Alloc, row5Round, row6Round, row6Take, row7Read0, row7Mark0, row7Read1, row7Mark1, row7Drop, row8Round, row8Take, row9Write, row10Look, row10Free, row11Write, noStage, lookStage, senseStage, phaseStage, lockStage, againStage, writeStage, unlockStage, fenceStage, typeStage, raiseStage, pollStage}
+use Rattle.state.specs.Codes.{top, storeMarkOld, storeMarkY, storeWrite, noopFence, noopFinish, rootsFence, rootsMark, rootsFinish, workFence, workFinish, row1Round, row2Read, row2Write, row3Round, row4Write, row4Round, row5Phase, row5Alloc, row5Round, row6Round, row6Take, row7First, row7Mark, row7Next, row7Drop, row8Round, row8Take, row9Write, row10Look, row10Free, row11Write, noStage, lookStage, senseStage, phaseStage, lockStage, againStage, writeStage, unlockStage, fenceStage, typeStage, raiseStage, pollStage}
 use Rattle.state.specs.States.{nextOf, at, noting, leaving, marking, listing, shaking, mutatorsOf, processOf, withProcess, withMemory, withSystem}
-use Rattle.model.specs.Offers.{Bare, OnlyX}
+use Rattle.state.specs.Choices.{allFields, fieldLeft}
+use Rattle.model.specs.Offers.{Bare, OnlyX, Scans, ScansOn}
 
 -- ---- words
 -- process q stands at place k, stage j
@@ -64,23 +65,22 @@ pub data Marks (q : Process) : ℕ → Type 0 where
   old : q .place ≡ storeMarkOld → Marks q (q .old)
   new : q .place ≡ storeMarkY → Marks q (q .y)
   root : q .place ≡ rootsMark → Marks q (q .cell)
-  first : q .place ≡ row7Mark0 → Marks q (q .cell)
-  second : q .place ≡ row7Mark1 → Marks q (q .cell)
+  field : q .place ≡ row7Mark → Marks q (q .cell)
 
 -- the notes of a mark zeroed; "not the collector's noted fM"
 unfoldable pub unnoted : ℕ → Process → Process
 unnoted p q = marking 0 false (pick (eqb p 0) (q .sense) false) 0 q
 
--- where the program goes on after a mark: "then mark the old; mark y; write the field"; "mark each root"; "read field
--- 0, mark it, read field 1, mark it, drop x"
+-- where the program goes on after a mark: "then mark the old; mark y; write the field"; "mark each root"; to "a field
+-- not yet scanned", then "drop x"
 pub data Next (q : Process) : Process → Type 0 where
   write : q .place ≡ storeMarkOld → q .y ≡ 0 → Next q (at storeWrite noStage q)
   new : q .place ≡ storeMarkOld → (q .y ≡ 0 → ⊥) → Next q (at storeMarkY lookStage q)
   marked : q .place ≡ storeMarkY → Next q (at storeWrite noStage q)
   roots : q .place ≡ rootsMark → q .left ≡ noCells → Next q (at rootsFinish noStage q)
   root : q .place ≡ rootsMark → (q .left ≡ noCells → ⊥) → Next q (at rootsMark lookStage q)
-  first : q .place ≡ row7Mark0 → Next q (at row7Read1 noStage q)
-  second : q .place ≡ row7Mark1 → Next q (at row7Drop noStage q)
+  fields : q .place ≡ row7Mark → q .left ≡ noCells → Next q (at row7Drop noStage q)
+  field : q .place ≡ row7Mark → (q .left ≡ noCells → ⊥) → Next q (at row7Next noStage q)
 
 -- a step of a mark of r by p, which is q: memory and the process after it
 pub data Mark (m : Memory) (p r : ℕ) (q : Process) : Memory → Process → Type 0 where
@@ -220,21 +220,24 @@ pub data Collector (s : State) (c : Choice) (p : ℕ) (q : Process) : State → 
   -- rows 6 and 8: "take the system's list (one step, emptying it; it replaces the collector's own); empty: row 9";
   -- "not empty: row 7, else row 9"
   takes : (At row6Take noStage q) ⊎ (At row8Take noStage q) → Bare c → (s .system .work ≡ noCells → ⊥)
-      → Collector s c p q (withProcess (withSystem s (withList (s .system) noCells)) p (at row7Read0 noStage (listing (s .system .work) (q .roots) q)))
+      → Collector s c p q (withProcess (withSystem s (withList (s .system) noCells)) p (at row7First noStage (listing (s .system .work) (q .roots) q)))
   takes-none : (At row6Take noStage q) ⊎ (At row8Take noStage q) → Bare c → s .system .work ≡ noCells
       → Collector s c p q (withProcess (withSystem s (withList (s .system) noCells)) p (at row9Write noStage (listing noCells (q .roots) q)))
-  -- row 7: "x from its list, named at the first read: read field 0, mark it, read field 1, mark it, drop x (one
-  -- step); until empty"
-  reads-first : At row7Read0 noStage q → OnlyX c → Member (q .work) (c .x) → {v : ℕ} → lookFieldOf (s .memory) p (c .x) 0 ≡ seesValue v → (v ≡ 0 → ⊥)
-      → Collector s c p q (withProcess s p (at row7Mark0 lookStage (marking v (q .look) (q .sense) (q .grey) (noting (c .x) (q .f) (q .y) (q .old) q))))
-  reads-first-null : At row7Read0 noStage q → OnlyX c → Member (q .work) (c .x) → lookFieldOf (s .memory) p (c .x) 0 ≡ seesValue 0
-      → Collector s c p q (withProcess s p (at row7Read1 noStage (noting (c .x) (q .f) (q .y) (q .old) q)))
+  -- row 7: "x from its list, named at the first read: .., drop x (one step); until empty"; "at each field read in row
+  -- 7 the choice's f names a field not yet scanned, and x keeps its use at the first"
+  reads-first : At row7First noStage q → Scans c (q .work) → {v : ℕ} → lookFieldOf (s .memory) p (c .x) (c .f) ≡ seesValue v → (v ≡ 0 → ⊥)
+      → Collector s c p q (withProcess s p (at row7Mark lookStage (marking v (q .look) (q .sense) (q .grey) (leaving (removeOf allFields (fieldLeft (c .f))) (noting (c .x) (q .f) (q .y) (q .old) q)))))
+  reads-first-null : At row7First noStage q → Scans c (q .work) → lookFieldOf (s .memory) p (c .x) (c .f) ≡ seesValue 0
+      → Collector s c p q (withProcess s p (at row7Next noStage (leaving (removeOf allFields (fieldLeft (c .f))) (noting (c .x) (q .f) (q .y) (q .old) q))))
   marks : Bare c → {r : ℕ} → Marks q r → {m : Memory} {t : Process} → Mark (s .memory) p r q m t → Collector s c p q (withProcess (withMemory s m) p t)
-  reads-second : At row7Read1 noStage q → Bare c → {v : ℕ} → lookFieldOf (s .memory) p (q .x) 1 ≡ seesValue v → (v ≡ 0 → ⊥)
-      → Collector s c p q (withProcess s p (at row7Mark1 lookStage (marking v (q .look) (q .sense) (q .grey) q)))
-  reads-second-null : At row7Read1 noStage q → Bare c → lookFieldOf (s .memory) p (q .x) 1 ≡ seesValue 0 → Collector s c p q (withProcess s p (at row7Drop noStage q))
+  reads-next : At row7Next noStage q → ScansOn c (q .left) → {v : ℕ} → lookFieldOf (s .memory) p (q .x) (c .f) ≡ seesValue v → (v ≡ 0 → ⊥)
+      → Collector s c p q (withProcess s p (at row7Mark lookStage (marking v (q .look) (q .sense) (q .grey) (leaving (removeOf (q .left) (fieldLeft (c .f))) q))))
+  reads-next-null : At row7Next noStage q → ScansOn c (q .left) → lookFieldOf (s .memory) p (q .x) (c .f) ≡ seesValue 0 → (removeOf (q .left) (fieldLeft (c .f)) ≡ noCells → ⊥)
+      → Collector s c p q (withProcess s p (at row7Next noStage (leaving (removeOf (q .left) (fieldLeft (c .f))) q)))
+  reads-last-null : At row7Next noStage q → ScansOn c (q .left) → lookFieldOf (s .memory) p (q .x) (c .f) ≡ seesValue 0 → removeOf (q .left) (fieldLeft (c .f)) ≡ noCells
+      → Collector s c p q (withProcess s p (at row7Drop noStage (leaving noCells q)))
   drops : At row7Drop noStage q → Bare c → (removeOf (q .work) (q .x) ≡ noCells → ⊥)
-      → Collector s c p q (withProcess s p (at row7Read0 noStage (noting 0 (q .f) (q .y) (q .old) (listing (removeOf (q .work) (q .x)) (q .roots) q))))
+      → Collector s c p q (withProcess s p (at row7First noStage (noting 0 (q .f) (q .y) (q .old) (listing (removeOf (q .work) (q .x)) (q .roots) q))))
   drops-last : At row7Drop noStage q → Bare c → removeOf (q .work) (q .x) ≡ noCells
       → Collector s c p q (withProcess s p (at row8Round fenceStage (noting 0 (q .f) (q .y) (q .old) (listing noCells (q .roots) q))))
   -- row 9: "write phase Sweep"

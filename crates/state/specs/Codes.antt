@@ -69,38 +69,35 @@ row6Round = 20
 abbrev pub row6Take : ℕ
 row6Take = 21
 
-abbrev pub row7Read0 : ℕ
-row7Read0 = 22
+abbrev pub row7First : ℕ
+row7First = 22
 
-abbrev pub row7Mark0 : ℕ
-row7Mark0 = 23
+abbrev pub row7Mark : ℕ
+row7Mark = 23
 
-abbrev pub row7Read1 : ℕ
-row7Read1 = 24
-
-abbrev pub row7Mark1 : ℕ
-row7Mark1 = 25
+abbrev pub row7Next : ℕ
+row7Next = 24
 
 abbrev pub row7Drop : ℕ
-row7Drop = 26
+row7Drop = 25
 
 abbrev pub row8Round : ℕ
-row8Round = 27
+row8Round = 26
 
 abbrev pub row8Take : ℕ
-row8Take = 28
+row8Take = 27
 
 abbrev pub row9Write : ℕ
-row9Write = 29
+row9Write = 28
 
 abbrev pub row10Look : ℕ
-row10Look = 30
+row10Look = 29
 
 abbrev pub row10Free : ℕ
-row10Free = 31
+row10Free = 30
 
 abbrev pub row11Write : ℕ
-row11Write = 32
+row11Write = 31
 
 -- ---- the stages of a mark, and of a round; 0 where there is neither
 abbrev pub noStage : ℕ

@@ -64,29 +64,27 @@ impl Place {
 
     pub const ROW6_TAKE: u8 = 21;
 
-    pub const ROW7_READ0: u8 = 22;
+    pub const ROW7_FIRST: u8 = 22;
 
-    pub const ROW7_MARK0: u8 = 23;
+    pub const ROW7_MARK: u8 = 23;
 
-    pub const ROW7_READ1: u8 = 24;
+    pub const ROW7_NEXT: u8 = 24;
 
-    pub const ROW7_MARK1: u8 = 25;
+    pub const ROW7_DROP: u8 = 25;
 
-    pub const ROW7_DROP: u8 = 26;
+    pub const ROW8_ROUND: u8 = 26;
 
-    pub const ROW8_ROUND: u8 = 27;
+    pub const ROW8_TAKE: u8 = 27;
 
-    pub const ROW8_TAKE: u8 = 28;
+    pub const ROW9_WRITE: u8 = 28;
 
-    pub const ROW9_WRITE: u8 = 29;
+    pub const ROW10_LOOK: u8 = 29;
 
-    pub const ROW10_LOOK: u8 = 30;
+    pub const ROW10_FREE: u8 = 30;
 
-    pub const ROW10_FREE: u8 = 31;
+    pub const ROW11_WRITE: u8 = 31;
 
-    pub const ROW11_WRITE: u8 = 32;
-
-    pub const BEYOND: u8 = 33;
+    pub const BEYOND: u8 = 32;
 }
 
 impl Stage {

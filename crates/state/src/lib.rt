@@ -1,5 +1,6 @@
 // The whole state: memory, processes and handshakes, by value; what a step reads of it and how it changes it.
 use base::Refusal;
+use buffers::Spot;
 use memory::Memory;
 
 pub mod acts;
@@ -8,7 +9,7 @@ pub mod opening;
 
 ghost use mathlib.Core.Path.{_≡_};
 ghost use Rattle.state.specs.States.{nextOf, typeNumber, phaseNumber, noProcess, processOf, withProcess, refusedOf, takenOf, mutatorsAmong, mutatorsOf};
-ghost use Rattle.state.specs.Choices.{isBlank, isNaming, isBare, isOfX};
+ghost use Rattle.state.specs.Choices.{fieldLeft, isBlank, isNaming, isScanning, isScanningOn, isBare, isOfX};
 
 // A handshake phase: "Idle, IdleInit, InitMark, Mark, IdleMarkSweep, Idle".
 pub enum Handshake {
@@ -43,7 +44,7 @@ pub struct Process {
     pub y: u8,
     // the honorary root: the old value read by a running store
     pub old: u8,
-    // roots, mutators or cells left
+    // roots, mutators, fields or cells left
     pub left: u64,
     // the notes of a mark: its cell (where it is not the old value or y), its first look, the noted fM
     pub cell: u8,
@@ -193,6 +194,48 @@ impl Choice {
             }
         }
         false
+    }
+
+    // Row 7's first read: the place uses x, one of the set, and f, any field.
+    pub fn scans(self, set: u64) -> bool
+        ensures { λ r. ⌜ r ≡ isScanning self set ⌝ }
+    {
+        if self.op != 0 {
+            return false;
+        }
+        if self.y != 0 {
+            return false;
+        }
+        if Spot::FIELDS <= self.f {
+            return false;
+        }
+        cells::member(set, self.x)
+    }
+
+    // Row 7's next read: the place uses f alone, one of the fields left.
+    pub fn scans_on(self, left: u64) -> bool
+        ensures { λ r. ⌜ r ≡ isScanningOn self left ⌝ }
+    {
+        if self.op != 0 {
+            return false;
+        }
+        if self.x != 0 {
+            return false;
+        }
+        if self.y != 0 {
+            return false;
+        }
+        cells::member(left, self.field_left())
+    }
+
+    // The number of field f among the fields left; 0, which is in no set, where there is no such field.
+    pub fn field_left(self) -> u8
+        ensures { λ r. ⌜ r ≡ fieldLeft (self .f) ⌝ }
+    {
+        if self.f < Spot::FIELDS {
+            return self.f + 1;
+        }
+        0
     }
 
     // At top: the operation uses nothing more.

@@ -9,11 +9,7 @@ use state::codes::RoundStage;
 // The stages of a place: a mark's seven, a round's four, or none.
 fn stages(place: u8) -> u8 {
     match place {
-        Place::STORE_MARK_OLD
-        | Place::STORE_MARK_Y
-        | Place::ROOTS_MARK
-        | Place::ROW7_MARK0
-        | Place::ROW7_MARK1 => 7,
+        Place::STORE_MARK_OLD | Place::STORE_MARK_Y | Place::ROOTS_MARK | Place::ROW7_MARK => 7,
         Place::ROW1_ROUND
         | Place::ROW3_ROUND
         | Place::ROW4_ROUND
@@ -29,8 +25,8 @@ fn noted(mut q: Process, place: u8) -> Process {
     match place {
         Place::STORE_MARK_OLD | Place::STORE_MARK_Y | Place::STORE_WRITE => return stored(q),
         Place::ROOTS_MARK => q.left = 5,
-        Place::ROW7_MARK0 | Place::ROW7_READ1 | Place::ROW7_MARK1 | Place::ROW7_DROP =>
-            return scanned(q),
+        Place::ROW7_MARK | Place::ROW7_NEXT => return scanned(q, 2),
+        Place::ROW7_DROP => return scanned(q, 0),
         Place::ROW10_LOOK => q.left = 7,
         Place::ROW10_FREE => {
             q.x = 1;
@@ -50,15 +46,17 @@ fn stored(mut q: Process) -> Process {
     q
 }
 
-fn scanned(mut q: Process) -> Process {
+// Cell 1 in hand, and its fields left.
+fn scanned(mut q: Process, left: u64) -> Process {
     q.x = 1;
+    q.left = left;
     q
 }
 
 // The cell that a mark notes for itself.
 fn own(place: u8) -> u8 {
     match place {
-        Place::ROOTS_MARK | Place::ROW7_MARK0 | Place::ROW7_MARK1 => 2,
+        Place::ROOTS_MARK | Place::ROW7_MARK => 2,
         _ => 0,
     }
 }
@@ -189,7 +187,7 @@ fn each(place: u8) {
 
 pub(crate) fn all() {
     let mut place = 0;
-    while place < 33 {
+    while place < Place::BEYOND {
         each(place);
         place += 1;
     }

@@ -12,7 +12,7 @@ use Rattle.buffers.specs.declared.Phase.the-variants as phase
 use Rattle.buffers.specs.declared.Store.{Store}
 use Rattle.buffers.specs.declared.Store.the-variants as store
 use Rattle.buffers.specs.Stores.{valueOf}
-use Rattle.buffers.specs.Fits.{IsCell, StoreFits}
+use Rattle.buffers.specs.Fits.{maxFields, IsCell, StoreFits}
 use Rattle.memory.specs.declared.Memory.{Memory}
 use Rattle.memory.specs.Memories.{taken}
 use Rattle.memory.specs.Looks.{lookFieldOf}
@@ -24,10 +24,11 @@ use Rattle.state.specs.declared.Process.{Process}
 use Rattle.state.specs.declared.System.{System}
 use Rattle.state.specs.declared.State.{State}
 use Rattle.state.specs.declared.Choice.{Choice}
-use Rattle.state.specs.Codes.{row2Read, row2Write, row4Write, row5Phase, row5Alloc, row6Take, row7Read0, row7Read1, row7Drop, row8Take, row9Write, row11Write, noStage, lookStage, fenceStage, raiseStage, pollStage}
+use Rattle.state.specs.Codes.{row2Read, row2Write, row4Write, row5Phase, row5Alloc, row6Take, row7First, row7Mark, row8Take, row9Write, row11Write, noStage, lookStage, fenceStage, raiseStage, pollStage}
 use Rattle.state.specs.States.{at, noting, leaving, marking, listing, mutatorsOf, processOf, withProcess, withMemory, withSystem}
-use Rattle.formed.specs.Fits.{Among, roundPlaces, plainPlaces, scanMarkPlaces, Unmarked, RoundNotes, CollectorAt, plain, round, scan, scan-mark, sweep, sweep-free, CollectorFits, WellFormed}
-use Rattle.formed.proofs.Gives.{plain-at, round-at, scan-at, sweep-at, sweep-free-at, collector-within, mark-begins, shakes}
+use Rattle.state.specs.Choices.{allFields, fieldLeft}
+use Rattle.formed.specs.Fits.{Among, roundPlaces, plainPlaces, Unmarked, RoundNotes, CollectorAt, plain, round, scan-mark, scan, drop, sweep, sweep-free, CollectorFits, WellFormed}
+use Rattle.formed.proofs.Gives.{plain-at, round-at, scan-at, drop-at, sweep-at, sweep-free-at, collector-within, mark-begins, shakes}
 use Rattle.formed.proofs.Keeps.{keeps-collector, keeps-mutator, keeps-system}
 use Rattle.model.specs.Rows.{seesValue, At, withList, Round, row1, row3, row4, row5, row6, row8, Collector, withProcesses, allOff, flagged}
 use Rattle.stays_formed.specs.Kept.{Fits, collects}
@@ -69,7 +70,7 @@ module _ {n m : ℕ} {t : Process} where
       round a (record { begun = omega arith; running = omega arith; no-x = x; none-left = λ _. l; left = rw l (below-empty m); mark = u })
 
   -- a mark begins
-  now-mark : Among (t .place) scanMarkPlaces → t .stage ≡ lookStage → IsCell n (t .x) → t .left ≡ noCells → IsCell n (t .cell) → t .look ≡ false → t .grey ≡ 0 → CollectorAt n m t
+  now-mark : t .place ≡ row7Mark → t .stage ≡ lookStage → IsCell n (t .x) → belowOf (t .left) maxFields ≡ true → IsCell n (t .cell) → t .look ≡ false → t .grey ≡ 0 → CollectorAt n m t
   now-mark a e x l i k g =
       scan-mark a
       (record {
@@ -138,6 +139,10 @@ module _ (s : State) (c : Choice) (q : Process) (w : WellFormed s) (f : Collecto
       keeps-collector (withSystem s (withList (s .system) noCells)) (keeps-system s w (withList (s .system) noCells) (below-empty (s .memory .cells))) _
       (renoted f b (now-plain a refl (d .no-x) (d .left) (d .mark)))
 
+  -- the fields left past the first
+  others : belowOf (removeOf allFields (fieldLeft (c .f))) maxFields ≡ true
+  others = below-remove allFields (fieldLeft (c .f)) maxFields (below-full maxFields)
+
   pub collector-kept : {t : State} → Collector s c 0 q t → WellFormed t
   collector-kept (Collector.fences r a b e) =
       let k = rounded r a in
@@ -162,29 +167,31 @@ module _ (s : State) (c : Choice) (q : Process) (w : WellFormed s) (f : Collecto
       let k = plain-at row5Phase refl (a .place) f in wrote (store.Phase phase.Mark) _ tt refl e (renoted f (f .work) (now-plain refl refl (k .no-x) (k .left) (k .mark)))
   collector-kept (Collector.writes-alloc a b e) =
       let k = plain-at row5Alloc refl (a .place) f in wrote (store.AllocSense (q .sense)) _ tt refl e (renoted f (f .work) (now-round refl refl (k .no-x) (k .left) (k .mark)))
-  collector-kept (Collector.takes a b h) = took row7Read0 (s .system .work) refl (w .system) a
+  collector-kept (Collector.takes a b h) = took row7First (s .system .work) refl (w .system) a
   collector-kept (Collector.takes-none a b h) = took row9Write noCells refl (below-empty (s .memory .cells)) a
-  collector-kept (Collector.reads-first a b m {v = v} e h) =
-      let k = plain-at row7Read0 refl (a .place) f in
-      goes _ (renoted f (f .work) (now-mark refl refl (below-range (q .work) (s .memory .cells) (c .x) (f .work) m) (k .left) (omega arith, seen (c .x) 0 e) (k .mark .no-look) (k .mark .no-grey)))
-  collector-kept (Collector.reads-first-null a b m e) =
-      let k = plain-at row7Read0 refl (a .place) f in
-      goes _ (renoted f (f .work) (scan refl (record { stage = refl; is-x = below-range (q .work) (s .memory .cells) (c .x) (f .work) m; left = k .left; mark = k .mark })))
+  collector-kept (Collector.reads-first a b {v = v} e h) =
+      let k = plain-at row7First refl (a .place) f in
+      goes _ (renoted f (f .work) (now-mark refl refl (below-range (q .work) (s .memory .cells) (c .x) (f .work) (b .cell)) others (omega arith, seen (c .x) (c .f) e) (k .mark .no-look) (k .mark .no-grey)))
+  collector-kept (Collector.reads-first-null a b e) =
+      let k = plain-at row7First refl (a .place) f in
+      goes _ (renoted f (f .work) (scan refl (record { stage = refl; is-x = below-range (q .work) (s .memory .cells) (c .x) (f .work) (b .cell); left = others; mark = k .mark })))
   collector-kept (Collector.marks b {r = r} k {m = m} {t = t} e) =
       let z : Fits (s .memory .cells) (mutatorsOf s) 0 q = collects refl f in
       let u = running (s .memory .cells) (mutatorsOf s) 0 q z k (λ i _. omega (arith, collector-within f .0)) in
       let v = mark-memory (s .memory) 0 r (w .memory) (ranged s w) here (u .notes .is-cell) e in
       moved s w m (v .0) (v .1) 0 t (omega arith) (mark-fits z u e)
-  collector-kept (Collector.reads-second a b {v = v} e h) =
-      let k = scan-at row7Read1 refl (a .place) f in
-      goes _ (renoted f (f .work) (now-mark refl refl (k .is-x) (k .left) (omega arith, seen (q .x) 1 e) (k .mark .no-look) (k .mark .no-grey)))
-  collector-kept (Collector.reads-second-null a b e) =
-      let k = scan-at row7Read1 refl (a .place) f in goes _ (renoted f (f .work) (scan refl (record { stage = refl; is-x = k .is-x; left = k .left; mark = k .mark })))
+  collector-kept (Collector.reads-next a b {v = v} e h) =
+      let k = scan-at (a .place) f in
+      goes _ (renoted f (f .work) (now-mark refl refl (k .is-x) (below-remove (q .left) (fieldLeft (c .f)) maxFields (k .left)) (omega arith, seen (q .x) (c .f) e) (k .mark .no-look) (k .mark .no-grey)))
+  collector-kept (Collector.reads-next-null a b e h) =
+      let k = scan-at (a .place) f in
+      goes _ (renoted f (f .work) (scan refl (record { stage = refl; is-x = k .is-x; left = below-remove (q .left) (fieldLeft (c .f)) maxFields (k .left); mark = k .mark })))
+  collector-kept (Collector.reads-last-null a b e h) = let k = scan-at (a .place) f in goes _ (renoted f (f .work) (drop refl (record { stage = refl; is-x = k .is-x; left = refl; mark = k .mark })))
   collector-kept (Collector.drops a b h) =
-      let k = scan-at row7Drop refl (a .place) f in
+      let k = drop-at (a .place) f in
       goes _ (renoted f (below-remove (q .work) (q .x) (s .memory .cells) (f .work)) (now-plain refl refl refl (k .left) (k .mark)))
   collector-kept (Collector.drops-last a b h) =
-      let k = scan-at row7Drop refl (a .place) f in
+      let k = drop-at (a .place) f in
       goes _ (renoted f (below-empty (s .memory .cells)) (now-round refl refl refl (k .left) (k .mark)))
   collector-kept (Collector.writes-sweep a b e) =
       let k = plain-at row9Write refl (a .place) f in

@@ -15,7 +15,7 @@ use Rattle.state.specs.declared.RoundType.{RoundType}
 use Rattle.state.specs.declared.Process.{Process}
 use Rattle.state.specs.declared.State.{State}
 use Rattle.state.specs.declared.Choice.{Choice}
-use Rattle.state.specs.Codes.{top, storeMarkOld, storeMarkY, storeWrite, noopFence, noopFinish, rootsFence, rootsMark, rootsFinish, workFence, workFinish, row2Read, row2Write, row4Write, row5Phase, row5Alloc, row6Take, row7Read0, row7Mark0, row7Read1, row7Mark1, row7Drop, row8Take, row9Write, row10Look, row10Free, row11Write, noStage, lookStage, senseStage, phaseStage, lockStage, againStage, writeStage, unlockStage, fenceStage, typeStage, raiseStage, pollStage}
+use Rattle.state.specs.Codes.{top, storeMarkOld, storeMarkY, storeWrite, noopFence, noopFinish, rootsFence, rootsMark, rootsFinish, workFence, workFinish, row2Read, row2Write, row4Write, row5Phase, row5Alloc, row6Take, row7First, row7Mark, row7Next, row7Drop, row8Take, row9Write, row10Look, row10Free, row11Write, noStage, lookStage, senseStage, phaseStage, lockStage, againStage, writeStage, unlockStage, fenceStage, typeStage, raiseStage, pollStage}
 use Rattle.state.specs.States.{at, processOf}
 use Rattle.model.specs.Deeds.{Deed, cellOf, topDeed, markDeed, rowDeed, deedOf}
 use Rattle.model.specs.Rows.{At, Marks, Mark, Mutator, Round, row1, row3, row4, row5, row6, row8, Collector, Row}
@@ -58,8 +58,7 @@ module _ (c : Choice) (q : Process) where
   mark-deed (Marks.old e) h j s = at-place storeMarkOld j (record { place = e; stage = s })
   mark-deed (Marks.new e) h j s = at-place storeMarkY j (record { place = e; stage = s })
   mark-deed (Marks.root e) h j s = at-place rootsMark j (record { place = e; stage = s }) ∙ rw (ne-eqb j lookStage (λ i. h e (s ∙ i))) refl
-  mark-deed (Marks.first e) h j s = at-place row7Mark0 j (record { place = e; stage = s })
-  mark-deed (Marks.second e) h j s = at-place row7Mark1 j (record { place = e; stage = s })
+  mark-deed (Marks.field e) h j s = at-place row7Mark j (record { place = e; stage = s })
 
   -- in a round, by the stage
   pub round-deed : {k j l : ℕ} {t : RoundType} (i : ℕ) → Round k t j l → At k i q → deedOf c q ≡ pick (eqb i fenceStage) Deed.fences Deed.apart
@@ -128,11 +127,12 @@ module _ (s : State) (c : Choice) (p : ℕ) (q : Process) where
   collector-does {t = t} h (Collector.writes-alloc a b e) = does (at-place c q row5Alloc noStage a) p (s .memory) (t .memory) e
   collector-does {t = t} h (Collector.takes a b i) = ⊎-elim (λ (j : At row6Take noStage q). does (at-place c q row6Take noStage j) p (s .memory) (t .memory) refl) (λ (j : At row8Take noStage q). does (at-place c q row8Take noStage j) p (s .memory) (t .memory) refl) a
   collector-does {t = t} h (Collector.takes-none a b i) = ⊎-elim (λ (j : At row6Take noStage q). does (at-place c q row6Take noStage j) p (s .memory) (t .memory) refl) (λ (j : At row8Take noStage q). does (at-place c q row8Take noStage j) p (s .memory) (t .memory) refl) a
-  collector-does {t = t} h (Collector.reads-first a b m e i) = does (at-place c q row7Read0 noStage a) p (s .memory) (t .memory) refl
-  collector-does {t = t} h (Collector.reads-first-null a b m e) = does (at-place c q row7Read0 noStage a) p (s .memory) (t .memory) refl
+  collector-does {t = t} h (Collector.reads-first a b e i) = does (at-place c q row7First noStage a) p (s .memory) (t .memory) refl
+  collector-does {t = t} h (Collector.reads-first-null a b e) = does (at-place c q row7First noStage a) p (s .memory) (t .memory) refl
   collector-does {t = t} h (Collector.marks b i e) = mark-does c p q i h e
-  collector-does {t = t} h (Collector.reads-second a b e i) = does (at-place c q row7Read1 noStage a) p (s .memory) (t .memory) refl
-  collector-does {t = t} h (Collector.reads-second-null a b e) = does (at-place c q row7Read1 noStage a) p (s .memory) (t .memory) refl
+  collector-does {t = t} h (Collector.reads-next a b e i) = does (at-place c q row7Next noStage a) p (s .memory) (t .memory) refl
+  collector-does {t = t} h (Collector.reads-next-null a b e n) = does (at-place c q row7Next noStage a) p (s .memory) (t .memory) refl
+  collector-does {t = t} h (Collector.reads-last-null a b e n) = does (at-place c q row7Next noStage a) p (s .memory) (t .memory) refl
   collector-does {t = t} h (Collector.drops a b i) = does (at-place c q row7Drop noStage a) p (s .memory) (t .memory) refl
   collector-does {t = t} h (Collector.drops-last a b i) = does (at-place c q row7Drop noStage a) p (s .memory) (t .memory) refl
   collector-does {t = t} h (Collector.writes-sweep a b e) = does (at-place c q row9Write noStage a) p (s .memory) (t .memory) e

@@ -83,11 +83,12 @@ module _ {s : State} {c : Choice} {q : Process} (k : c .kind ≡ 0) where
   collector-changes (Collector.writes-alloc a b e) = Changed.stores (Stored.writes k (Writes.alloc a) e) _
   collector-changes (Collector.takes a b h) = Changed.system (Handed.takes a) _
   collector-changes (Collector.takes-none a b h) = Changed.system (Handed.takes a) _
-  collector-changes (Collector.reads-first a b m e h) = Changed.stores Stored.same _
-  collector-changes (Collector.reads-first-null a b m e) = Changed.stores Stored.same _
+  collector-changes (Collector.reads-first a b e h) = Changed.stores Stored.same _
+  collector-changes (Collector.reads-first-null a b e) = Changed.stores Stored.same _
   collector-changes (Collector.marks b i e) = Changed.stores (mark-stores k i e) _
-  collector-changes (Collector.reads-second a b e h) = Changed.stores Stored.same _
-  collector-changes (Collector.reads-second-null a b e) = Changed.stores Stored.same _
+  collector-changes (Collector.reads-next a b e h) = Changed.stores Stored.same _
+  collector-changes (Collector.reads-next-null a b e n) = Changed.stores Stored.same _
+  collector-changes (Collector.reads-last-null a b e n) = Changed.stores Stored.same _
   collector-changes (Collector.drops a b h) = Changed.stores Stored.same _
   collector-changes (Collector.drops-last a b h) = Changed.stores Stored.same _
   collector-changes (Collector.writes-sweep a b e) = Changed.stores (Stored.writes k (Writes.sweep a) e) _

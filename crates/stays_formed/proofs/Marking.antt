@@ -22,9 +22,9 @@ use Rattle.memory.specs.Steps.{lockOf, unlockOf}
 use Rattle.memory_formed.specs.WellFormed.{MemoryFormed}
 use Rattle.memory_formed.proofs.Kept.{write-kept, lock-kept, unlock-kept}
 use Rattle.state.specs.declared.Process.{Process}
-use Rattle.state.specs.Codes.{rootsMark, row7Mark0, row7Mark1, lookStage, senseStage, phaseStage, lockStage, againStage, writeStage, unlockStage}
+use Rattle.state.specs.Codes.{rootsMark, row7Mark, lookStage, senseStage, phaseStage, lockStage, againStage, writeStage, unlockStage}
 use Rattle.state.specs.States.{at, marking, listing}
-use Rattle.formed.specs.Fits.{Among, scanMarkPlaces, MarkNotes, Unmarked, StoreMark, RootsRest, MutatorAt, idle, mark-old, mark-y, write, roots-first, roots-rest, MutatorFits, CollectorAt, scan, scan-mark, CollectorFits}
+use Rattle.formed.specs.Fits.{MarkNotes, Unmarked, StoreMark, RootsRest, MutatorAt, idle, mark-old, mark-y, write, roots-first, roots-rest, MutatorFits, CollectorAt, scan-mark, scan, drop, CollectorFits}
 use Rattle.formed.proofs.Gives.{mark-old-at, mark-y-at, roots-at, roots-rest-at, scan-mark-at, mutator-within, collector-within, mark-begins, mark-looks, mark-goes-on, mark-greys}
 use Rattle.model.specs.Rows.{unnoted, Marks, Next, Mark}
 use Rattle.stays_formed.specs.Kept.{Fits, collects, mutates, Ranged}
@@ -66,9 +66,9 @@ module _ (n m p : ℕ) (q : Process) where
             (record { roots = f .roots; work = f .work; notes = roots-rest e (record { named = i; notes = k .notes; left = k .left; mark = w; sense = h pos }) });
       }
 
-  scanning : p ≡ 0 → Among (q .place) scanMarkPlaces → CollectorFits n m q → Running n m p (q .cell) q
+  scanning : p ≡ 0 → q .place ≡ row7Mark → CollectorFits n m q → Running n m p (q .cell) q
   scanning z a f =
-      let k = scan-mark-at (q .place) a refl f in
+      let k = scan-mark-at a f in
       record {
         notes = k .mark;
         sense = λ h _. absurd (omega arith);
@@ -90,13 +90,11 @@ module _ (n m p : ℕ) (q : Process) where
   running (mutates pos f) (Marks.old e) h = storing (q .old) pos f (mark-old-at e f) (λ j l b g. mark-old e)
   running (mutates pos f) (Marks.new e) h = storing (q .y) pos f (mark-y-at e f) (λ j l b g. mark-y e)
   running (mutates pos f) (Marks.root e) h = rooting pos e f (roots-rest-at e (h e) f)
-  running (mutates pos f) (Marks.first e) h = absurd (omega (arith, mutator-within f))
-  running (mutates pos f) (Marks.second e) h = absurd (omega (arith, mutator-within f))
+  running (mutates pos f) (Marks.field e) h = absurd (omega (arith, mutator-within f))
   running (collects z f) (Marks.old e) h = absurd (omega (arith, collector-within f .0))
   running (collects z f) (Marks.new e) h = absurd (omega (arith, collector-within f .0))
   running (collects z f) (Marks.root e) h = absurd (omega (arith, collector-within f .0))
-  running (collects z f) (Marks.first e) h = scanning z (rw e refl) f
-  running (collects z f) (Marks.second e) h = scanning z (rw e refl) f
+  running (collects z f) (Marks.field e) h = scanning z e f
 
 -- ---- after a mark
 unmarked : Unmarked 0 false 0
@@ -142,18 +140,18 @@ module _ (n m p : ℕ) (q : Process) (b : Bool) (w : ℕ) (below : belowOf w n �
       let u = ⊎-elim (λ k. k .notes) (λ k. k .notes) (roots-at e f) in
       let l = ⊎-elim (λ k. k .left) (λ k. k .left) (roots-at e f) in
       after-mutator pos f (roots-first refl (record { stage = refl; notes = u; left = l; mark = unmarked; sense = unsensed pos }))
-  next-fits (mutates pos f) (Next.first e) = absurd (omega (arith, mutator-within f))
-  next-fits (mutates pos f) (Next.second e) = absurd (omega (arith, mutator-within f))
+  next-fits (mutates pos f) (Next.fields e l) = absurd (omega (arith, mutator-within f))
+  next-fits (mutates pos f) (Next.field e l) = absurd (omega (arith, mutator-within f))
   next-fits (collects z f) (Next.write e y) = absurd (omega (arith, collector-within f .0))
   next-fits (collects z f) (Next.new e y) = absurd (omega (arith, collector-within f .0))
   next-fits (collects z f) (Next.marked e) = absurd (omega (arith, collector-within f .0))
   next-fits (collects z f) (Next.roots e l) = absurd (omega (arith, collector-within f .0))
   next-fits (collects z f) (Next.root e l) = absurd (omega (arith, collector-within f .0))
-  next-fits (collects z f) (Next.first e) =
-      let k = scan-mark-at row7Mark0 refl e f in
-      after-collector z f (scan refl (record { stage = refl; is-x = k .is-x; left = k .left; mark = unmarked }))
-  next-fits (collects z f) (Next.second e) =
-      let k = scan-mark-at row7Mark1 refl e f in
+  next-fits (collects z f) (Next.fields e l) =
+      let k = scan-mark-at e f in
+      after-collector z f (drop refl (record { stage = refl; is-x = k .is-x; left = l; mark = unmarked }))
+  next-fits (collects z f) (Next.field e l) =
+      let k = scan-mark-at e f in
       after-collector z f (scan refl (record { stage = refl; is-x = k .is-x; left = k .left; mark = unmarked }))
 
 -- ---- the steps

@@ -64,10 +64,9 @@ fn rows_6_to_8(place: u8) {
     match place {
         Place::ROW6_ROUND => say(b"row 6 round"),
         Place::ROW6_TAKE => say(b"row 6 take"),
-        Place::ROW7_READ0 => say(b"row 7 read field 0"),
-        Place::ROW7_MARK0 => say(b"row 7 mark field 0"),
-        Place::ROW7_READ1 => say(b"row 7 read field 1"),
-        Place::ROW7_MARK1 => say(b"row 7 mark field 1"),
+        Place::ROW7_FIRST => say(b"row 7 first read"),
+        Place::ROW7_MARK => say(b"row 7 mark"),
+        Place::ROW7_NEXT => say(b"row 7 next read"),
         Place::ROW7_DROP => say(b"row 7 drop"),
         Place::ROW8_ROUND => say(b"row 8 round"),
         Place::ROW8_TAKE => say(b"row 8 take"),
@@ -134,11 +133,7 @@ fn operation(op: u8) {
 fn stage(q: Process) {
     let place = q.place;
     match place {
-        Place::STORE_MARK_OLD
-        | Place::STORE_MARK_Y
-        | Place::ROOTS_MARK
-        | Place::ROW7_MARK0
-        | Place::ROW7_MARK1 => {
+        Place::STORE_MARK_OLD | Place::STORE_MARK_Y | Place::ROOTS_MARK | Place::ROW7_MARK => {
             say(b", ");
             mark(q.stage);
         }

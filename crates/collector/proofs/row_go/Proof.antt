@@ -26,11 +26,14 @@ returns-5 c = simp (c .before .match .keys5) (c .to3 .ensures)
 
 returns-6 : tie.Need-returns-6
 unfolding rowGo
-returns-6 c = rw (← c .before .value-in .ensures) (simp (c .before .before .match .keys6) (c .scanning .ensures))
+returns-6 c =
+    rw (← c .before .before .before .full .ensures, ← c .before .before .others .ensures, ← c .before .value-in .ensures)
+    (simp (c .before .before .before .before .match .keys6) (c .scanning .ensures))
 
 returns-7 : tie.Need-returns-7
 unfolding rowGo
-returns-7 c = rw (← c .before .value-in2 .ensures) (simp (c .before .before .match .keys7) (c .scanning2 .ensures))
+returns-7 c =
+    rw (← c .before .before .others2 .ensures, ← c .before .value-in2 .ensures) (simp (c .before .before .before .match .keys7) (c .scanning2 .ensures))
 
 returns-8 : tie.Need-returns-8
 unfolding rowGo
@@ -57,4 +60,4 @@ unfolding rowGo
 returns-13 c = search (needs, picks, c .match .rest .1, c .match .rest .0 .1, c .match .rest .0 .0 .1, c .match .rest .0 .0 .0 .1, c .match .rest .0 .0 .0 .0 .1, c .match .rest .0 .0 .0 .0 .0 .1, c .match .rest .0 .0 .0 .0 .0 .0 .1, c .match .rest .0 .0 .0 .0 .0 .0 .0 .1, c .match .rest .0 .0 .0 .0 .0 .0 .0 .0 .1, c .match .rest .0 .0 .0 .0 .0 .0 .0 .0 .0 .1, c .match .rest .0 .0 .0 .0 .0 .0 .0 .0 .0 .0 .1, c .match .rest .0 .0 .0 .0 .0 .0 .0 .0 .0 .0 .0 .1) depth 16
 
 pub row-go-spec : {M : Type 1} → statement M
-row-go-spec = tie.close (tie.spec (search needs) (search needs) (search needs) (search needs) (search needs) (search needs) (search needs) (search needs) (search needs) (search needs) (search needs) (search needs) (search needs) (search needs) (search needs) (search needs) (search needs) returns returns-2 returns-3 returns-4 returns-5 returns-6 returns-7 returns-8 returns-9 returns-10 returns-11 returns-12 returns-13)
+row-go-spec = tie.close (tie.spec (search needs) (search needs) (search needs) (search needs) (search needs) (search needs) (search needs) (search needs) (search needs) (search needs) (search needs) (search needs) (search needs) (search needs) (search needs) (search needs) (search needs) (search needs) (search needs) (search needs) returns returns-2 returns-3 returns-4 returns-5 returns-6 returns-7 returns-8 returns-9 returns-10 returns-11 returns-12 returns-13)

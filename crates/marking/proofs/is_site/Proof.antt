@@ -22,11 +22,7 @@ returns-4 c = rw (c .match .keys4) (search (needs, picks) depth 16)
 
 returns-5 : tie.Need-returns-5
 unfolding isSite
-returns-5 c = rw (c .match .keys5) (search (needs, picks) depth 16)
-
-returns-6 : tie.Need-returns-6
-unfolding isSite
-returns-6 c = search (needs, picks, c .match .rest .1, c .match .rest .0 .1, c .match .rest .0 .0 .1, c .match .rest .0 .0 .0 .1, c .match .rest .0 .0 .0 .0 .1) depth 16
+returns-5 c = search (needs, picks, c .match .rest .1, c .match .rest .0 .1, c .match .rest .0 .0 .1, c .match .rest .0 .0 .0 .1) depth 16
 
 pub is-site-spec : {M : Type 1} → statement M
-is-site-spec = tie.close (tie.spec returns returns-2 returns-3 returns-4 returns-5 returns-6)
+is-site-spec = tie.close (tie.spec returns returns-2 returns-3 returns-4 returns-5)

@@ -19,8 +19,11 @@ returns-3 c = search (needs, picks, c .before .if3 .left, c .before .before .bef
 
 returns-4 : tie.Need-returns-4
 unfolding leftFitsOf
-returns-4 c = search (needs, picks, c .before .if2 .left, c .before .before .if1 .left) depth 16
+returns-4 c = rw (← c .below3 .ensures) (search (needs, picks, c .before .if4 .taken, c .before .before .if2 .left, c .before .before .before .if1 .left) depth 16)
+
+returns-5 : tie.Need-returns-5
+unfolding leftFitsOf
+returns-5 c = search (needs, picks, c .before .if4 .left, c .before .before .if2 .left, c .before .before .before .if1 .left) depth 16
 
 pub left-fits-spec : {M : Type 1} → statement M
-left-fits-spec =
-    tie.close (tie.spec (search needs) returns (search needs) returns-2 returns-3 returns-4)
+left-fits-spec = tie.close (tie.spec (search needs) returns (search needs) returns-2 returns-3 (search needs) returns-4 returns-5)
