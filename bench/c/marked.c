@@ -13,8 +13,8 @@
 #include <stdlib.h>
 #include <string.h>
 
-/* The marked table has twelve cases, and case 12 has two logs; and two more. */
-#define EXAMPLES 16
+/* The thirteen logs of the marked table, and six more. */
+#define EXAMPLES 19
 /* One byte more than a log may have. */
 #define ROOM (CLAYSAUCER_LOG_LIMIT + 1)
 

@@ -2,19 +2,23 @@
 
 use crate::choice::Choice;
 use crate::events::{Event, Record};
-use crate::header::Fault;
+use crate::generate::Generator;
+use crate::header::{parse_header, Fault};
+use crate::heads::Head;
 use crate::log::{judge_observed, Outcome, LOG_LIMIT, RECORD_LENGTH};
 use crate::number::{STOP_FEW_LEFT, VERDICT_MALFORMED, VERDICT_SOUND};
 use crate::place::{CollectorPlace, MutatorPlace};
 use crate::state::{bit, State};
+use crate::version::Version;
 use std::collections::BTreeMap;
 use std::fmt::{Debug, Write};
 
 /// The stops that a log can reach. Stop 1 and stop 11 are not among them: a
 /// state reached from an opening is well formed and holds no loose cell.
 pub(crate) const STOPS: [u8; 13] = [0, 2, 3, 4, 5, 6, 7, 8, 9, 10, 12, 13, 14];
-/// The longest header that is cut after its every byte, 7 + 3 * 2 + 4 bytes.
-const CUT_HEADER: usize = 17;
+/// The longest header that is cut after its every byte: 7 + 3 * 2 + 4 bytes in
+/// version 1, 7 + 3 * 2 + 8 in version 2.
+const CUT_HEADER: usize = 21;
 
 /// Counts by name.
 type Counts<K> = BTreeMap<K, u64>;
@@ -30,6 +34,9 @@ pub struct Coverage {
     mutator_places: Counts<MutatorPlace>,
     collector_places: Counts<CollectorPlace>,
     faults: Counts<Fault>,
+    /// The same, of logs of version 2 alone.
+    faults_of_2: Counts<Fault>,
+    heads: Counts<Head>,
     events: Counts<Event>,
     sizes: Counts<usize>,
     /// Bytes of a header that is cut, and of a last record that is cut.
@@ -42,13 +49,24 @@ pub struct Coverage {
 /// What one log has done so far.
 #[derive(Default)]
 struct History {
-    freed: u32,
+    freed: u64,
     collections: u32,
 }
 
 impl Coverage {
     pub fn new() -> Coverage {
         Coverage::default()
+    }
+
+    /// That of so many generated logs of each version.
+    pub fn of_generated(seed: u64, logs: u64) -> Coverage {
+        let mut coverage = Coverage::new();
+        for mut generator in [Generator::new(seed), Generator::of_version_2(seed)] {
+            for _ in 0..logs {
+                coverage.add(&generator.next_log());
+            }
+        }
+        coverage
     }
 
     /// Runs a log and counts what it reaches.
@@ -69,9 +87,14 @@ impl Coverage {
         count(&mut self.verdicts, outcome.verdict);
         count(&mut self.sizes, log.len());
         match end {
-            Err(fault) => self.fault(fault, log.len()),
-            Ok(state) if outcome.stop == STOP_FEW_LEFT => self.cut(&state, log.len()),
+            Err(fault) => self.fault(fault, log),
+            Ok(_) if outcome.stop == STOP_FEW_LEFT => self.cut(log),
             Ok(_) => {}
+        }
+        if log.len() <= LOG_LIMIT {
+            for head in Head::of(log) {
+                count(&mut self.heads, head);
+            }
         }
         self.watch(log, outcome);
         outcome
@@ -101,16 +124,20 @@ impl Coverage {
         }
     }
 
-    fn fault(&mut self, fault: Fault, length: usize) {
+    fn fault(&mut self, fault: Fault, log: &[u8]) {
         count(&mut self.faults, fault);
+        if log.get(3..5) == Some(&Version::Two.number().to_le_bytes()) {
+            count(&mut self.faults_of_2, fault);
+        }
         if fault == Fault::Short {
-            count(&mut self.cut_headers, length);
+            count(&mut self.cut_headers, log.len());
         }
     }
 
-    fn cut(&mut self, state: &State, length: usize) {
-        let header = 7 + 3 * usize::from(state.n) + 4 * usize::from(state.m);
-        count(&mut self.cut_records, (length - header) % RECORD_LENGTH);
+    fn cut(&mut self, log: &[u8]) {
+        if let Ok((_, records)) = parse_header(log) {
+            count(&mut self.cut_records, records.len() % RECORD_LENGTH);
+        }
     }
 
     /// Keeps a log that contradicts the published theorem.
@@ -159,6 +186,11 @@ impl Coverage {
     fn sections(&self) -> Vec<Section> {
         let sizes = LOG_LIMIT - 1..=LOG_LIMIT + 1;
         let event_line = |&event: &Event| (event.name().to_string(), self.times(event));
+        let head_line = |head: &Head| {
+            let times = self.heads.get(head).copied().unwrap_or(0);
+            (head.name().to_string(), times)
+        };
+        let after_version = |fault: &Fault| *fault > Fault::VersionHighByte;
         vec![
             ("Stops", lines(STOPS, &self.stops)),
             (
@@ -170,6 +202,14 @@ impl Coverage {
                 lines(CollectorPlace::all(), &self.collector_places),
             ),
             ("Header clauses broken", lines(Fault::ALL, &self.faults)),
+            (
+                "Header clauses broken in version 2",
+                lines(
+                    Fault::ALL.into_iter().filter(after_version),
+                    &self.faults_of_2,
+                ),
+            ),
+            ("Versions", Head::ALL.iter().map(head_line).collect()),
             (
                 "Header cut after so many bytes",
                 lines(0..CUT_HEADER, &self.cut_headers),

@@ -3,6 +3,11 @@
 use crate::generate::Generator;
 use crate::header::parse_header;
 use crate::log::RECORD_LENGTH;
+use crate::version::Version;
+
+/// Where the version's low byte stands, and N.
+const VERSION_AT: usize = 3;
+const CELLS_AT: usize = 5;
 
 /// What is done to a log.
 #[derive(Clone, Copy, Debug, PartialEq, Eq)]
@@ -23,10 +28,12 @@ pub enum Damage {
     Swapped,
     /// A record has another byte, and the check of it.
     Altered,
+    /// It calls itself of the other version, 1 or 2.
+    Renumbered,
 }
 
 impl Damage {
-    pub const ALL: [Damage; 8] = [
+    pub const ALL: [Damage; 9] = [
         Damage::Cut,
         Damage::Flipped,
         Damage::Joined,
@@ -35,6 +42,7 @@ impl Damage {
         Damage::Dropped,
         Damage::Swapped,
         Damage::Altered,
+        Damage::Renumbered,
     ];
 }
 
@@ -53,6 +61,7 @@ impl Generator {
             Damage::Dropped => self.drop_record(&mut log),
             Damage::Swapped => self.swap(&mut log),
             Damage::Altered => self.alter(&mut log),
+            Damage::Renumbered => renumber(&mut log),
         }
         log
     }
@@ -108,8 +117,10 @@ impl Generator {
         let Some(at) = self.record_of(log) else {
             return;
         };
+        let wide = log[CELLS_AT] > Version::One.cells();
         if let Some([choice @ .., low, high]) = log[at..].first_chunk_mut::<RECORD_LENGTH>() {
-            choice[self.random.below(6) as usize] = self.random.below(6) as u8;
+            let limit = if wide { self.random.pick(&[6, 70]) } else { 6 };
+            choice[self.random.below(6) as usize] = self.random.below(limit) as u8;
             let check = choice.iter().map(|&byte| u16::from(byte)).sum::<u16>() + 1;
             [*low, *high] = check.to_le_bytes();
         }
@@ -124,5 +135,12 @@ impl Generator {
         }
         let record = self.random.below(count as u32) as usize;
         Some(log.len() - records.len() + record * RECORD_LENGTH)
+    }
+}
+
+/// Changes version 1 into 2 and 2 into 1.
+fn renumber(log: &mut [u8]) {
+    if let Some(low @ (1 | 2)) = log.get_mut(VERSION_AT) {
+        *low = 3 - *low;
     }
 }

@@ -1,28 +1,16 @@
 //! Named events of a run, told from one record's state before and after.
 
 use crate::choice::Choice;
+use crate::named::named;
 use crate::number::{BLOCKED, FLAG_DOWN, FULL, NONE_PENDING, NOT_OFFERED, PENDING, TAKEN};
 use crate::place::{CollectorPlace, MarkStage, MutatorPlace, RoundStage};
 use crate::state::{bit, State, Store, BUFFER_ROOM};
+use crate::version::Version;
 use Event::*;
 
-macro_rules! events {
-    ($($event:ident => $name:literal,)*) => {
-        /// Something worth reaching.
-        #[derive(Clone, Copy, Debug, PartialEq, Eq, PartialOrd, Ord)]
-        pub enum Event { $($event,)* }
-
-        impl Event {
-            pub const ALL: &'static [Event] = &[$($event,)*];
-
-            pub fn name(self) -> &'static str {
-                match self { $($event => $name,)* }
-            }
-        }
-    };
-}
-
-events! {
+named! {
+/// Something worth reaching.
+Event {
     MarkWon => "mark won",
     MarkRaceWon => "mark race won (another process is marking the same cell)",
     MarkRaceLost => "mark race lost (the two looks disagree)",
@@ -94,6 +82,14 @@ events! {
     PendingUnlock => "refusal 8 at an unlock",
     FullField => "refusal 9, write of a field",
     FullMark => "refusal 9, write of a mark",
+    HighAllocated => "allocation of a cell above 32",
+    HighDropped => "root above 32 dropped",
+    HighLoaded => "load of a reference above 32",
+    HighMarked => "mark won of a cell above 32",
+    HighCommitted => "commit of a field of a cell above 32 that names one above 32",
+    HighScanned => "row 7 scans both fields of a cell above 32",
+    HighFreed => "cell above 32 freed",
+}
 }
 
 /// One record: the state before, the choice, its number, the state after.
@@ -131,7 +127,38 @@ impl Record<'_> {
         } else {
             self.own_step(&mut events);
         }
+        let high: Vec<_> = events
+            .iter()
+            .filter_map(|&event| self.high(event))
+            .collect();
+        events.extend(high);
         events
+    }
+
+    /// What the event is besides, where its cell is one that version 1 has not.
+    fn high(&self, event: Event) -> Option<Event> {
+        let Choice { x, f, .. } = self.choice;
+        let collector = &self.before.collector;
+        let (cell, high) = match event {
+            AllocatedBlack | AllocatedWhite => (x, HighAllocated),
+            RootDropped => (x, HighDropped),
+            LoadOfReference => (self.before.read_field(self.p(), x, f).ok()?, HighLoaded),
+            MarkWon => (self.before.own(self.p()).greying, HighMarked),
+            CommitField => (self.committed_cell()?, HighCommitted),
+            Field0First | Field1First => (collector.scanned, HighScanned),
+            CellFreed => (collector.doomed, HighFreed),
+            _ => return None,
+        };
+        (cell > Version::One.cells()).then_some(high)
+    }
+
+    /// Of a field that is committed, its cell or the one it then names,
+    /// whichever is less.
+    fn committed_cell(&self) -> Option<u8> {
+        match *self.before.own(self.p()).buffer.front()? {
+            Store::Field { cell, value, .. } => Some(cell.min(value)),
+            _ => None,
+        }
     }
 
     fn commit(&self) -> Option<Event> {
@@ -252,7 +279,7 @@ impl Record<'_> {
             CollectorPlace::Row10Free => events.push(CellFreed),
             CollectorPlace::Row11WriteIdle => events.push(Collected),
             place if place.round_stage() == Some(RoundStage::Poll) => {
-                let up = u32::from(after.awaited) & x_bit != 0;
+                let up = u64::from(after.awaited) & x_bit != 0;
                 events.push(if up { PollUp } else { PollDown });
             }
             _ => {}

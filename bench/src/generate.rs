@@ -9,15 +9,18 @@ use crate::place::CollectorPlace;
 use crate::random::Random;
 use crate::state::State;
 use crate::step::apply;
+use crate::version::Version;
 
 /// How often a walk may be refused in a row before it ends.
 const PATIENCE: u32 = 2_000;
 
 /// Makes logs, long and short, valid and damaged. The same seed gives the
-/// same logs.
+/// same logs. Those of version 1 alone are the ones it gave before R-3.
 #[derive(Clone, Debug)]
 pub struct Generator {
     pub(crate) random: Random,
+    /// The versions of its logs.
+    versions: &'static [Version],
 }
 
 /// A log being written, with the state its records have reached.
@@ -38,9 +41,34 @@ impl Walk {
 }
 
 impl Generator {
+    /// A generator of logs of version 1.
     pub fn new(seed: u64) -> Generator {
+        Generator::with(seed, &[Version::One])
+    }
+
+    /// A generator of logs of version 2.
+    pub fn of_version_2(seed: u64) -> Generator {
+        Generator::with(seed, &[Version::Two])
+    }
+
+    /// A generator of logs of both versions, drawn by lot.
+    pub fn of_both(seed: u64) -> Generator {
+        Generator::with(seed, &Version::ALL)
+    }
+
+    fn with(seed: u64, versions: &'static [Version]) -> Generator {
         Generator {
             random: Random::new(seed),
+            versions,
+        }
+    }
+
+    /// The version of the next header. Where there is but one, no lot is
+    /// drawn.
+    pub(crate) fn version(&mut self) -> Version {
+        match *self.versions {
+            [only] => only,
+            _ => self.random.pick(self.versions),
         }
     }
 
@@ -94,21 +122,28 @@ impl Generator {
     /// Bytes without sense, alone or after a header, or records without sense
     /// and with a right check.
     fn soup(&mut self) -> Vec<u8> {
-        let mut log = match self.random.below(3) {
-            0 => Vec::new(),
-            _ => self.header().bytes(),
+        let header = match self.random.below(3) {
+            0 => None,
+            _ => Some(self.header()),
         };
+        let mut log = header.as_ref().map(Header::bytes).unwrap_or_default();
         let length = self.random.below(120);
         if log.is_empty() || self.random.percent(20) {
             log.extend((0..length).map(|_| self.random.byte()));
         } else {
-            log.extend((0..length).flat_map(|_| self.senseless().record()));
+            let cells = header.map_or(0, |header| header.cells.len() as u32);
+            log.extend((0..length).flat_map(|_| self.senseless(cells).record()));
         }
         log
     }
 
-    /// A choice of mostly small numbers.
-    fn senseless(&mut self) -> Choice {
+    /// A choice of mostly small numbers; over more than 32 cells, of any of
+    /// them and a little above.
+    fn senseless(&mut self, cells: u32) -> Choice {
+        let (x, y) = match cells {
+            0..=32 => (4, 3),
+            _ => (cells + 2, cells + 2),
+        };
         let mut small = |limit| match self.random.percent(1) {
             true => self.random.byte(),
             false => self.random.below(limit) as u8,
@@ -117,9 +152,9 @@ impl Generator {
             process: small(4),
             kind: small(2),
             operation: small(6),
-            x: small(4),
+            x: small(x),
             f: small(2),
-            y: small(3),
+            y: small(y),
         }
     }
 
@@ -203,8 +238,12 @@ impl Generator {
     /// A log of exactly the length asked, every record of it taken. The header
     /// is such that 65,536 bytes end with a whole record.
     pub fn log_of(&mut self, length: usize) -> Vec<u8> {
-        let (n, m) = self.random.pick(&[(3, 2), (3, 4), (7, 1), (7, 3), (11, 2)]);
-        let header = self.header_of(n, m);
+        let version = self.version();
+        let (n, m) = self.random.pick(match version {
+            Version::One => &[(3, 2), (3, 4), (7, 1), (7, 3), (11, 2)],
+            Version::Two => &[(3, 2), (11, 4), (35, 1), (43, 3), (59, 2)],
+        });
+        let header = self.header_of(version, n, m);
         let mut walk = open_with(&header);
         while walk.log.len() < length {
             let mood = Mood::random(&mut self.random);
@@ -220,8 +259,8 @@ impl Generator {
 
     /// A log of so many records, every one of them taken, over n cells and m
     /// mutators. It mostly has collections, races for a mark and full buffers.
-    pub fn log_over(&mut self, n: u8, m: u8, records: usize) -> Vec<u8> {
-        let header = self.header_of(n, m);
+    pub fn log_over(&mut self, version: Version, n: u8, m: u8, records: usize) -> Vec<u8> {
+        let header = self.header_of(version, n, m);
         let mut walk = open_with(&header);
         let length = walk.log.len() + records * RECORD_LENGTH;
         while walk.log.len() < length {

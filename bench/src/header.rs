@@ -1,19 +1,19 @@
-//! The head of a log: bytes "MGT", version, N, M, cells and root sets.
+//! The head of a log: bytes "MGT", version, N, M, cells and root sets. What
+//! the versions differ in is in [`Version`].
 
-use crate::state::{bit, set_of, State, CELLS, MUTATORS};
+use crate::state::{bit, set_of, State, MUTATORS};
+use crate::version::Version;
 
 /// "Bytes 4D 47 54".
 const MAGIC: [u8; 3] = *b"MGT";
-/// "a 16-bit version 1".
-const VERSION: u16 = 1;
 /// Bytes before the cells.
 const FIXED: usize = 7;
-/// Bytes of a cell and of a root set.
+/// Bytes of a cell.
 const CELL_LENGTH: usize = 3;
-const ROOTS_LENGTH: usize = 4;
 
 /// The clause of the header's rule that a log breaks first. All of them are
-/// stop 12.
+/// stop 12. The version's low byte is wrong if it is neither 1 nor 2, and there
+/// are too many cells if there are more than the version has room for.
 #[derive(Clone, Copy, Debug, PartialEq, Eq, PartialOrd, Ord)]
 pub enum Fault {
     LogTooLong,
@@ -65,17 +65,20 @@ pub struct Header {
     /// Occupied, field 0 and field 1 of each cell.
     pub cells: Vec<[u8; 3]>,
     /// Each mutator's root set.
-    pub roots: Vec<u32>,
+    pub roots: Vec<u64>,
+    /// The bytes that each root set is written in, the lowest ones.
+    pub roots_length: usize,
 }
 
 impl Header {
-    /// A header with the right bytes in front.
-    pub fn new(cells: Vec<[u8; 3]>, roots: Vec<u32>) -> Header {
+    /// A header of a version, with the right bytes in front.
+    pub fn new(version: Version, cells: Vec<[u8; 3]>, roots: Vec<u64>) -> Header {
         Header {
             magic: MAGIC,
-            version: VERSION,
+            version: version.number(),
             cells,
             roots,
+            roots_length: version.roots_length(),
         }
     }
 
@@ -86,7 +89,9 @@ impl Header {
         bytes.push(self.cells.len() as u8);
         bytes.push(self.roots.len() as u8);
         bytes.extend(self.cells.iter().flatten());
-        bytes.extend(self.roots.iter().flat_map(|roots| roots.to_le_bytes()));
+        for roots in &self.roots {
+            bytes.extend(&roots.to_le_bytes()[..self.roots_length]);
+        }
         bytes
     }
 
@@ -101,7 +106,7 @@ impl Header {
     }
 
     /// The cells the header calls occupied.
-    fn occupied(&self) -> u32 {
+    fn occupied(&self) -> u64 {
         (1u8..)
             .zip(&self.cells)
             .filter(|(_, cell)| cell[0] == 1)
@@ -126,7 +131,7 @@ impl Header {
 }
 
 /// The clause a cell breaks.
-fn cell_fault([occupied_byte, first, second]: [u8; 3], all: u32, occupied: u32) -> Option<Fault> {
+fn cell_fault([occupied_byte, first, second]: [u8; 3], all: u64, occupied: u64) -> Option<Fault> {
     let fields = [first, second];
     match occupied_byte {
         0 if fields == [0, 0] => None,
@@ -139,7 +144,7 @@ fn cell_fault([occupied_byte, first, second]: [u8; 3], all: u32, occupied: u32) 
 }
 
 /// The clause a field of an occupied cell breaks.
-fn field_fault(field: u8, all: u32, occupied: u32) -> Option<Fault> {
+fn field_fault(field: u8, all: u64, occupied: u64) -> Option<Fault> {
     if field == 0 || occupied & bit(field) != 0 {
         None
     } else if all & bit(field) == 0 {
@@ -150,7 +155,7 @@ fn field_fault(field: u8, all: u32, occupied: u32) -> Option<Fault> {
 }
 
 /// The clause a root set breaks.
-fn roots_fault(set: u32, all: u32, occupied: u32) -> Option<Fault> {
+fn roots_fault(set: u64, all: u64, occupied: u64) -> Option<Fault> {
     if set & !all != 0 {
         Some(Fault::RootAtOrAboveN)
     } else if set & !occupied != 0 {
@@ -164,18 +169,20 @@ fn roots_fault(set: u32, all: u32, occupied: u32) -> Option<Fault> {
 /// clause that is broken first.
 pub fn parse_header(log: &[u8]) -> Result<(State, &[u8]), Fault> {
     check_magic(log)?;
-    let (cells, mutators) = counts(log)?;
+    let version = version(log)?;
+    let (cells, mutators) = counts(log, version)?;
     let body = log.get(FIXED..).ok_or(Fault::Short)?;
     let (cell_bytes, rest) = split(body, cells * CELL_LENGTH)?;
-    let (root_bytes, records) = split(rest, mutators * ROOTS_LENGTH)?;
+    let (root_bytes, records) = split(rest, mutators * version.roots_length())?;
     let header = Header::new(
+        version,
         cell_bytes
             .chunks_exact(CELL_LENGTH)
             .map(|c| [c[0], c[1], c[2]])
             .collect(),
         root_bytes
-            .chunks_exact(ROOTS_LENGTH)
-            .map(|r| u32::from_le_bytes([r[0], r[1], r[2], r[3]]))
+            .chunks_exact(version.roots_length())
+            .map(little_endian)
             .collect(),
     );
     match header.content_fault() {
@@ -184,40 +191,62 @@ pub fn parse_header(log: &[u8]) -> Result<(State, &[u8]), Fault> {
     }
 }
 
+/// A number of at most 8 bytes, the lowest first.
+fn little_endian(bytes: &[u8]) -> u64 {
+    bytes
+        .iter()
+        .rev()
+        .fold(0, |number, &byte| number << 8 | u64::from(byte))
+}
+
 /// The bytes that are the same in every log.
 fn check_magic(log: &[u8]) -> Result<(), Fault> {
-    let [low, high] = VERSION.to_le_bytes();
     let [first, second, third] = MAGIC;
     let expected = [
         (first, Fault::FirstByte),
         (second, Fault::SecondByte),
         (third, Fault::ThirdByte),
-        (low, Fault::VersionLowByte),
-        (high, Fault::VersionHighByte),
     ];
-    for (i, (byte, fault)) in expected.into_iter().enumerate() {
-        if *log.get(i).ok_or(Fault::Short)? != byte {
+    for (i, (expected, fault)) in expected.into_iter().enumerate() {
+        if byte(log, i)? != expected {
             return Err(fault);
         }
     }
     Ok(())
 }
 
-/// N and M, "N from 1 to 32", "M from 1 to 4".
-fn counts(log: &[u8]) -> Result<(usize, usize), Fault> {
-    let n = usize::from(*log.get(5).ok_or(Fault::Short)?);
-    let m = usize::from(*log.get(6).ok_or(Fault::Short)?);
+/// The version, "16-bit" and "little-endian": one of the two.
+fn version(log: &[u8]) -> Result<Version, Fault> {
+    let low = u16::from(byte(log, 3)?);
+    let version = Version::ALL
+        .into_iter()
+        .find(|version| version.number() == low)
+        .ok_or(Fault::VersionLowByte)?;
+    match byte(log, 4)? {
+        0 => Ok(version),
+        _ => Err(Fault::VersionHighByte),
+    }
+}
+
+/// N and M: N from 1 to what the version has room for, "M from 1 to 4".
+fn counts(log: &[u8], version: Version) -> Result<(usize, usize), Fault> {
+    let n = byte(log, 5)?;
+    let m = usize::from(byte(log, 6)?);
     if n == 0 {
         Err(Fault::NoCells)
-    } else if n > CELLS {
+    } else if n > version.cells() {
         Err(Fault::TooManyCells)
     } else if m == 0 {
         Err(Fault::NoMutators)
     } else if m > MUTATORS {
         Err(Fault::TooManyMutators)
     } else {
-        Ok((n, m))
+        Ok((usize::from(n), m))
     }
+}
+
+fn byte(log: &[u8], at: usize) -> Result<u8, Fault> {
+    log.get(at).copied().ok_or(Fault::Short)
 }
 
 fn split(bytes: &[u8], at: usize) -> Result<(&[u8], &[u8]), Fault> {

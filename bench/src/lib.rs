@@ -1,5 +1,5 @@
-//! An independent judge of document 01, with the change R-4 of document 02:
-//! the non-moving Schism collector with mutators on x86-TSO.
+//! An independent judge of document 01, with the changes of
+//! document 02: the non-moving Schism collector with mutators on x86-TSO.
 //!
 //! It is the second opinion for a proved judge written elsewhere and shares
 //! nothing with it. It is written from these two documents alone.
@@ -22,6 +22,7 @@ mod damage;
 mod events;
 mod generate;
 mod header;
+mod heads;
 mod log;
 mod malformed;
 mod marked;
@@ -29,6 +30,7 @@ mod marking;
 mod memory;
 mod mood;
 mod mutator;
+mod named;
 pub mod number;
 mod openings;
 mod place;
@@ -40,6 +42,7 @@ mod state;
 mod step;
 pub mod timing;
 mod verdict;
+mod version;
 
 pub use choice::Choice;
 #[cfg(feature = "proved")]
@@ -51,7 +54,7 @@ pub use generate::Generator;
 pub use header::{parse_header, Fault, Header};
 pub use log::{judge, judge_observed, line, Outcome, LOG_LIMIT, RECORD_LENGTH};
 pub use malformed::malformed;
-pub use marked::{marked_cases, MarkedCase};
+pub use marked::{marked_cases, wide_cases, MarkedCase};
 pub use place::{CollectorPlace, MarkStage, MutatorPlace, RoundStage};
 pub use random::Random;
 pub use state::{
@@ -60,3 +63,4 @@ pub use state::{
 };
 pub use step::{apply, step};
 pub use verdict::verdict;
+pub use version::Version;

@@ -48,7 +48,7 @@ impl Bounds {
     }
 
     /// A set of cells.
-    fn set(self, set: u32) -> bool {
+    fn set(self, set: u64) -> bool {
         set & !set_of(self.n) == 0
     }
 
@@ -62,7 +62,7 @@ impl Bounds {
     }
 
     /// A set of cells where the note is in use, and empty where it is not.
-    fn set_if(self, used: bool, set: u32) -> bool {
+    fn set_if(self, used: bool, set: u64) -> bool {
         if used {
             self.set(set)
         } else {
@@ -115,7 +115,7 @@ fn collector_fits(collector: &Collector, bounds: Bounds) -> bool {
     let awaits = place.round_stage() >= Some(RoundStage::Raise);
     let sweeps = matches!(place, Row10Look | Row10Free);
     process_fits(&collector.own, place.mark_stage(), bounds)
-        && u32::from(collector.awaited) & !set_of(bounds.m) == 0
+        && u64::from(collector.awaited) & !set_of(bounds.m) == 0
         && (collector.awaited == 0 || awaits)
         && bounds.cell_if(place.in_scan(), collector.scanned)
         && collector.unscanned & !BOTH_FIELDS == 0

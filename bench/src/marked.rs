@@ -1,8 +1,12 @@
 //! "Stalls we know (the marked table)": the logs of the twelve cases, with
-//! the numbers document 01 gives for them. Case 12 has two logs.
+//! the numbers document 01 gives for them. Case 12 has two logs, and is as R-3
+//! of document 02 has it. Beside the table, logs of R-3.
 
 use crate::choice::Choice;
+use crate::header::Header;
 use crate::log::Outcome;
+use crate::state::bit;
+use crate::version::Version;
 
 /// "Base log, 17 bytes".
 const BASE: [u8; 17] = [
@@ -78,7 +82,8 @@ fn handshake() -> Vec<u8> {
     ])
 }
 
-/// Case 12: base and a, with the version or N changed.
+/// Case 12: base and a, with the version or N changed. R-3: "Marked case 12
+/// now refuses version 3, and N of 33 only in version 1."
 fn headers() -> Vec<MarkedCase> {
     let changed = |at: usize, byte| {
         let mut log = [&BASE[..], &A].concat();
@@ -86,9 +91,44 @@ fn headers() -> Vec<MarkedCase> {
         log
     };
     vec![
-        case("case-12-version.log", changed(3, 2), (0, 12, 4)),
+        case("case-12-version.log", changed(3, 3), (0, 12, 4)),
         case("case-12-cells.log", changed(5, 33), (0, 12, 4)),
     ]
+}
+
+/// Logs of R-3 beside the table: 64 cells in use, and "N of 33 only in version
+/// 1", told of two whole headers.
+pub fn wide_cases() -> Vec<MarkedCase> {
+    let free_33 = |version| Header::new(version, vec![[0, 0, 0]; 33], vec![0]).bytes();
+    vec![
+        case("sixty-four.log", sixty_four(), (7, 0, 0)),
+        case("cells-33-version-1.log", free_33(Version::One), (0, 12, 4)),
+        case("cells-33-version-2.log", free_33(Version::Two), (0, 0, 0)),
+    ]
+}
+
+/// Cells 1, 33 and 64 of 64 are occupied, and field 0 of cell 1 names 64.
+/// Mutator 1 has the roots 1 and 64, mutator 2 the root 33. Mutator 1 reads
+/// field 0 of cell 1; stores 64 in field 1 of cell 1, which takes the read, two
+/// steps of the mark of 64, the write and its commit; and allocates cell 40.
+fn sixty_four() -> Vec<u8> {
+    let mut cells = vec![[0, 0, 0]; 64];
+    cells[0] = [1, 64, 0];
+    cells[32] = [1, 0, 0];
+    cells[63] = [1, 0, 0];
+    let roots = vec![bit(1) | bit(64), bit(33)];
+    let choices = [
+        Choice::operation(1, 2, 1, 0, 0),
+        Choice::operation(1, 3, 1, 1, 64),
+        Choice::own(1),
+        Choice::own(1),
+        Choice::own(1),
+        Choice::commit(1),
+        Choice::operation(1, 0, 40, 0, 0),
+    ];
+    let mut log = Header::new(Version::Two, cells, roots).bytes();
+    log.extend(choices.into_iter().flat_map(Choice::record));
+    log
 }
 
 /// The base log with these records.

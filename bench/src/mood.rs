@@ -134,7 +134,7 @@ impl Mood {
             CollectorPlace::Row7NextRead => return next_read(collector),
             CollectorPlace::Row10Look => collector.unswept,
             place => match place.round_stage() {
-                Some(RoundStage::Raise) => u32::from(collector.awaited),
+                Some(RoundStage::Raise) => u64::from(collector.awaited),
                 Some(RoundStage::Poll) => return self.poll(state, random),
                 _ => 0,
             },
@@ -145,7 +145,7 @@ impl Mood {
     /// A poll, mostly of a mutator that has answered. If none has, mostly a
     /// mutator's step instead.
     fn poll(&self, state: &State, random: &mut Random) -> Choice {
-        let awaited = u32::from(state.collector.awaited);
+        let awaited = u64::from(state.collector.awaited);
         let answered = members(awaited)
             .filter(|&p| !state.mutator(p).flag)
             .fold(0, |set, p| set | bit(p));
@@ -217,7 +217,7 @@ fn stored(mutator: &Mutator, random: &mut Random) -> u8 {
     }
 }
 
-fn free_cells(state: &State) -> u32 {
+fn free_cells(state: &State) -> u64 {
     members(set_of(state.n))
         .filter(|&r| !state.cell(r).occupied)
         .fold(0, |set, r| set | bit(r))

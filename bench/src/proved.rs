@@ -3,15 +3,32 @@
 
 use crate::log::{judge as rust_judge, Outcome};
 use crate::timing::Judge;
+use crate::version::Version;
 
-/// The judges that are timed beside each other, the Rust judge last; the
-/// earlier one where it is linked.
-pub const JUDGES: &[(&str, Judge)] = &[
-    ("proved", judge),
-    #[cfg(feature = "earlier")]
-    ("earlier", earlier),
-    ("Rust", rust_judge),
-];
+/// A judge with its name.
+pub type Named = (&'static str, Judge);
+
+/// The judges that are timed beside each other on logs of a version, the Rust
+/// judge last; the earlier one where it is linked and reads the version.
+pub fn judges(version: Version) -> Vec<Named> {
+    let mut judges = vec![("proved", judge as Judge)];
+    judges.extend(earlier_judge_of(version));
+    judges.push(("Rust", rust_judge));
+    judges
+}
+
+/// The earlier judge, unless it refuses the least header of the version.
+#[cfg(feature = "earlier")]
+fn earlier_judge_of(version: Version) -> Option<Named> {
+    let least = crate::header::Header::new(version, vec![[0, 0, 0]], vec![0]);
+    let refused = earlier(&least.bytes()).stop == crate::number::STOP_NOT_ADMITTED;
+    (!refused).then_some(("earlier", earlier as Judge))
+}
+
+#[cfg(not(feature = "earlier"))]
+fn earlier_judge_of(_: Version) -> Option<Named> {
+    None
+}
 
 /// As `include/claysaucer.h` declares it: a slice is its pointer and its
 /// length.

@@ -44,8 +44,8 @@ impl Random {
         from[self.below(from.len() as u32) as usize]
     }
 
-    /// A member of a set of 1..32, 0 if it is empty.
-    pub fn member(&mut self, mut set: u32) -> u8 {
+    /// A member of a set of 1..64, 0 if it is empty.
+    pub fn member(&mut self, mut set: u64) -> u8 {
         if set == 0 {
             return 0;
         }

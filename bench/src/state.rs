@@ -4,8 +4,8 @@
 use crate::place::{CollectorPlace, MarkStage, MutatorPlace};
 use std::collections::VecDeque;
 
-/// "Cells 1..N, N from 1 to 32".
-pub const CELLS: usize = 32;
+/// "Cells 1..N", and R-3: "Raise N to 64 for the new box."
+pub const CELLS: usize = 64;
 /// "M from 1 to 4".
 pub const MUTATORS: usize = 4;
 /// "a FIFO buffer of at most 8 pending stores".
@@ -82,7 +82,7 @@ pub struct Process {
     /// Pending stores, oldest first.
     pub buffer: VecDeque<Store>,
     /// The work list, bit 0 for cell 1.
-    pub list: u32,
+    pub list: u64,
     /// The one cell it is greying, 0 if none.
     pub greying: u8,
     /// A running mark's first look.
@@ -107,7 +107,7 @@ pub struct Collector {
     /// The field value row 7 is marking.
     pub child: u8,
     /// Row 10's cells left.
-    pub unswept: u32,
+    pub unswept: u64,
     /// The cell row 10 is about to free.
     pub doomed: u8,
 }
@@ -117,7 +117,7 @@ pub struct Collector {
 pub struct Mutator {
     pub own: Process,
     pub place: MutatorPlace,
-    pub roots: u32,
+    pub roots: u64,
     /// "the old value read by a running store (the honorary root)".
     pub honorary: u8,
     /// A running store's x, f and y.
@@ -125,7 +125,7 @@ pub struct Mutator {
     pub field: u8,
     pub value: u8,
     /// The roots an answer has still to mark, and the one it is marking.
-    pub unmarked: u32,
+    pub unmarked: u64,
     pub root: u8,
     /// The raised flag, the in-step bit and the handshake phase.
     pub flag: bool,
@@ -138,11 +138,11 @@ pub struct Mutator {
 pub struct System {
     pub kind: HandshakeType,
     pub phase: HandshakePhase,
-    pub list: u32,
+    pub list: u64,
 }
 
 /// A whole state. `cells[0]` is cell 1 and `mutators[0]` is process 1.
-#[derive(Clone, Debug, Default, PartialEq, Eq)]
+#[derive(Clone, Debug, PartialEq, Eq)]
 pub struct State {
     /// N, the number of cells.
     pub n: u8,
@@ -161,11 +161,29 @@ pub struct State {
     pub mutators: [Mutator; MUTATORS],
 }
 
+impl Default for State {
+    /// All zero, which is malformed.
+    fn default() -> State {
+        State {
+            n: 0,
+            m: 0,
+            cells: [Cell::default(); CELLS],
+            mark_sense: false,
+            allocation_sense: false,
+            phase: Phase::default(),
+            lock: None,
+            system: System::default(),
+            collector: Collector::default(),
+            mutators: Default::default(),
+        }
+    }
+}
+
 impl State {
     /// The opening of document 01, given each cell's fields (`None` for a
-    /// free cell) and each mutator's roots. At most 32 cells and 4 mutators
+    /// free cell) and each mutator's roots. At most 64 cells and 4 mutators
     /// are heeded.
-    pub fn opening(cells: &[Option<[u8; 2]>], roots: &[u32]) -> State {
+    pub fn opening(cells: &[Option<[u8; 2]>], roots: &[u64]) -> State {
         let mut state = State {
             n: cells.len() as u8,
             m: roots.len() as u8,
@@ -192,7 +210,7 @@ impl State {
         state
     }
 
-    /// Cell r, from 1 to 32.
+    /// Cell r, from 1 to 64.
     pub fn cell(&self, r: u8) -> &Cell {
         &self.cells[usize::from(r) - 1]
     }
@@ -259,17 +277,17 @@ impl State {
     }
 }
 
-/// The set of all members 1..count. The count is from 0 to 32.
-pub fn set_of(count: u8) -> u32 {
-    u32::MAX
-        .checked_shr(32 - u32::from(count.min(32)))
+/// The set of all members 1..count. The count is from 0 to 64.
+pub fn set_of(count: u8) -> u64 {
+    u64::MAX
+        .checked_shr(64 - u32::from(count.min(64)))
         .unwrap_or(0)
 }
 
-/// The set of member r alone, "bit 0 for cell 1"; empty if r is not 1 to 32.
-pub fn bit(r: u8) -> u32 {
+/// The set of member r alone, "bit 0 for cell 1"; empty if r is not 1 to 64.
+pub fn bit(r: u8) -> u64 {
     match r {
-        1..=32 => 1 << (r - 1),
+        1..=64 => 1 << (r - 1),
         _ => 0,
     }
 }
@@ -283,6 +301,6 @@ pub fn field_bit(f: u8) -> u8 {
 }
 
 /// The members of a set, least first.
-pub fn members(set: u32) -> impl Iterator<Item = u8> {
-    (1..=32).filter(move |&r| set & bit(r) != 0)
+pub fn members(set: u64) -> impl Iterator<Item = u8> {
+    (1..=64).filter(move |&r| set & bit(r) != 0)
 }

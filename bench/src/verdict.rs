@@ -20,7 +20,7 @@ pub fn verdict(state: &State) -> (u8, u8) {
 }
 
 /// "Held: roots, honorary roots, targets and values of pending field stores".
-fn held(state: &State) -> u32 {
+fn held(state: &State) -> u64 {
     let mut held = 0;
     for mutator in state.live_mutators() {
         held |= mutator.roots | bit(mutator.honorary);
@@ -47,7 +47,7 @@ fn loose_cell(state: &State) -> Option<u8> {
 }
 
 /// The cells that r's fields name. A free cell's fields are 0.
-fn named_by(state: &State, r: u8) -> u32 {
+fn named_by(state: &State, r: u8) -> u64 {
     let [first, second] = state.cell(r).fields;
     bit(first) | bit(second)
 }
@@ -63,14 +63,14 @@ fn black_naming_white(state: &State) -> Option<u8> {
 }
 
 /// "White: occupied, mark unequal to memory's fM."
-fn white_cells(state: &State) -> u32 {
+fn white_cells(state: &State) -> u64 {
     (1..=state.n)
         .filter(|&r| state.cell(r).occupied && state.cell(r).mark != state.mark_sense)
         .fold(0, |white, r| white | bit(r))
 }
 
 /// "Grey: on any work list or being greyed."
-fn grey_cells(state: &State) -> u32 {
+fn grey_cells(state: &State) -> u64 {
     state.processes().fold(state.system.list, |grey, own| {
         grey | own.list | bit(own.greying)
     })

@@ -7,7 +7,7 @@ use claysaucer_bench::number::{FREE, TAKEN};
 use claysaucer_bench::{field_bit, step, Choice, CollectorPlace, MarkStage, Phase, State, Store};
 use common::{collector_marks, mutator_marks, next_choice, number, opening, scanning, FREE_CELL};
 
-const FREE_BIT: u32 = 1 << (FREE_CELL - 1);
+const FREE_BIT: u64 = 1 << (FREE_CELL - 1);
 
 #[test]
 fn the_first_look() {

@@ -16,11 +16,7 @@ const SEED: u64 = 1;
 /// contradicts the published theorem, and the stored table says so.
 #[test]
 fn the_fixed_seed_reaches_everything() {
-    let mut generator = Generator::new(SEED);
-    let mut coverage = Coverage::new();
-    for _ in 0..20_000 {
-        coverage.add(&generator.next_log());
-    }
+    let coverage = Coverage::of_generated(SEED, 20_000);
     assert_eq!(coverage.missing(), Vec::<String>::new());
     assert!(coverage.alarms.is_empty(), "{:02X?}", coverage.alarms);
     assert!(
@@ -40,7 +36,7 @@ fn lock_agrees(state: &State) -> bool {
 /// "a state reached from an opening is well formed", and its verdict is 0.
 #[test]
 fn every_reached_state_is_well_formed_and_sound() {
-    let mut generator = Generator::new(2);
+    let mut generator = Generator::of_both(2);
     for _ in 0..6_000 {
         let log = generator.next_log();
         let (outcome, _) = judge_observed(&log, |before, choice, number, after| {
@@ -74,7 +70,7 @@ fn try_choice(state: &State, choice: Choice) -> u8 {
 
 #[test]
 fn bad_choices_along_generated_runs_change_nothing() {
-    let mut generator = Generator::new(3);
+    let mut generator = Generator::of_both(3);
     let mut random = Random::new(4);
     let mut seen = [0u32; 12];
     for _ in 0..2_000 {
@@ -139,7 +135,7 @@ fn disturbed_states_keep_the_rules() {
 /// The same from states at the end of a run.
 #[test]
 fn disturbed_deep_states_keep_the_rules() {
-    let mut generator = Generator::new(6);
+    let mut generator = Generator::of_both(6);
     let mut random = Random::new(7);
     let mut well_formed = 0;
     for _ in 0..4_000 {
@@ -173,7 +169,7 @@ fn cut_outcome(whole: Outcome, header: usize, length: usize) -> Option<(u32, u8)
 /// "A log that ends after any byte gives the run of its whole records."
 #[test]
 fn truncation_after_every_byte() {
-    let mut generator = Generator::new(8);
+    let mut generator = Generator::of_both(8);
     let mut cut = 0;
     while cut < 300 {
         let log = generator.next_log();
@@ -206,23 +202,27 @@ fn header_outcome() -> Outcome {
 
 #[test]
 fn every_clause_of_the_header_broken_alone() {
-    let mut generator = Generator::new(9);
-    for fault in Fault::ALL {
-        let times = if fault == Fault::LogTooLong { 2 } else { 200 };
-        for _ in 0..times {
-            let log = generator.faulty(fault);
-            let (outcome, end) = judge_observed(&log, |_, _, _, _| {});
-            assert_eq!(end.err(), Some(fault), "{log:02X?}");
-            assert_eq!(outcome, header_outcome());
-            assert_eq!(outcome, judge(&log));
+    for mut generator in [Generator::new(9), Generator::of_version_2(9)] {
+        for fault in Fault::ALL {
+            let times = if fault == Fault::LogTooLong { 2 } else { 200 };
+            for _ in 0..times {
+                broken_alone(&generator.faulty(fault), fault);
+            }
         }
     }
 }
 
+fn broken_alone(log: &[u8], fault: Fault) {
+    let (outcome, end) = judge_observed(log, |_, _, _, _| {});
+    assert_eq!(end.err(), Some(fault), "{log:02X?}");
+    assert_eq!(outcome, header_outcome());
+    assert_eq!(outcome, judge(log));
+}
+
 #[test]
 fn logs_at_the_limit() {
-    let mut generator = Generator::new(10);
-    for _ in 0..3 {
+    let mut generator = Generator::of_both(10);
+    for _ in 0..6 {
         let log = generator.log_of(65_537);
         assert_eq!(log.len(), 65_537);
         assert_eq!(judge(&log), header_outcome());
@@ -240,10 +240,32 @@ fn logs_at_the_limit() {
 
 #[test]
 fn the_same_seed_gives_the_same_logs() {
-    let logs = |seed| {
-        let mut generator = Generator::new(seed);
-        (0..50).map(|_| generator.next_log()).collect::<Vec<_>>()
+    for maker in [Generator::new, Generator::of_version_2, Generator::of_both] {
+        let logs = |seed| {
+            let mut generator = maker(seed);
+            (0..50).map(|_| generator.next_log()).collect::<Vec<_>>()
+        };
+        assert_eq!(logs(11), logs(11));
+        assert_ne!(logs(11), logs(12));
+    }
+}
+
+/// What a generator's logs call themselves, where their header is admitted.
+#[test]
+fn a_generator_keeps_to_its_versions() {
+    let versions = |mut generator: Generator| {
+        let logs = (0..2_000).map(|_| generator.next_log());
+        let admitted = logs.filter(|log| parse_header(log).is_ok());
+        admitted.map(|log| log[3]).collect::<Vec<u8>>()
     };
-    assert_eq!(logs(11), logs(11));
-    assert_ne!(logs(11), logs(12));
+    assert!(versions(Generator::new(15)).iter().all(|&own| own == 1));
+    let two = versions(Generator::of_version_2(15));
+    assert!(two.iter().all(|&own| own == 2));
+    let both = versions(Generator::of_both(15));
+    let twos = both.iter().filter(|&&own| own == 2).count();
+    assert!(
+        (both.len() * 2 / 5..both.len() * 3 / 5).contains(&twos),
+        "{twos} of {}",
+        both.len()
+    );
 }

@@ -1,7 +1,7 @@
 //! The marked table, and its logs as files.
 
 use claysaucer_bench::{
-    judge, judge_observed, line, marked_cases, HandshakePhase, MarkedCase, State,
+    judge, judge_observed, line, marked_cases, wide_cases, HandshakePhase, MarkedCase, State,
 };
 use std::fs;
 use std::path::{Path, PathBuf};
@@ -15,10 +15,10 @@ fn log_of(file: &str) -> Vec<u8> {
     case.expect("a marked case").log
 }
 
-/// The text of expected.txt.
-fn expected_lines() -> String {
+/// The lines of expected.txt for these cases.
+fn expected_lines(cases: &[MarkedCase]) -> String {
     let told = |case: &MarkedCase| format!("{}: {}", case.file, line(case.expected));
-    marked_cases().iter().map(told).collect()
+    cases.iter().map(told).collect()
 }
 
 #[test]
@@ -28,6 +28,55 @@ fn every_marked_case_gives_its_numbers() {
     for case in cases {
         assert_eq!(judge(&case.log), case.expected, "{}", case.file);
     }
+}
+
+/// R-3's logs beside the table.
+#[test]
+fn every_wide_case_gives_its_numbers() {
+    let cases = wide_cases();
+    assert_eq!(cases.len(), 3);
+    for case in cases {
+        assert_eq!(judge(&case.log), case.expected, "{}", case.file);
+    }
+}
+
+/// "Marked case 12 now refuses version 3, and N of 33 only in version 1."
+/// They are case 1 but for that byte.
+#[test]
+fn case_12_changes_one_byte() {
+    let first = log_of("case-01.log");
+    for (file, at, byte) in [("case-12-version.log", 3, 3), ("case-12-cells.log", 5, 33)] {
+        let mut log = first.clone();
+        log[at] = byte;
+        assert_eq!(log_of(file), log, "{file}");
+    }
+}
+
+/// The two headers of 33 cells differ in the version, and in the root set that
+/// it has.
+#[test]
+fn thirty_three_cells_in_both_versions() {
+    let [_, one, two] = wide_cases().try_into().unwrap_or_else(|_| panic!("three"));
+    let mut expected = vec![0x4D, 0x47, 0x54, 1, 0, 33, 1];
+    expected.extend([0; 99 + 4]);
+    assert_eq!(one.log, expected);
+    expected[3] = 2;
+    expected.extend([0; 4]);
+    assert_eq!(two.log, expected);
+}
+
+/// What the run of 64 cells leaves: cell 1 names 64 twice, and cell 40 is new.
+#[test]
+fn sixty_four_cells_end_as_told() {
+    let log = &wide_cases()[0].log;
+    assert_eq!(log.len(), 7 + 3 * 64 + 8 * 2 + 7 * 8);
+    let (_, end) = judge_observed(log, |_, _, _, _| {});
+    let end: State = end.expect("a sound header");
+    assert_eq!(end.cell(1).fields, [64, 64]);
+    let occupied: Vec<u8> = (1..=64).filter(|&r| end.cell(r).occupied).collect();
+    assert_eq!(occupied, [1, 33, 40, 64]);
+    assert_eq!(end.mutators[0].roots, 1 | 1 << 39 | 1 << 63);
+    assert_eq!(end.mutators[1].roots, 1 << 32);
 }
 
 #[test]
@@ -51,12 +100,13 @@ fn case_11_ends_with_both_phases_idle() {
 
 #[test]
 fn the_example_files_are_the_marked_logs() {
-    for case in marked_cases() {
+    for case in marked_cases().into_iter().chain(wide_cases()) {
         let log = fs::read(examples().join(case.file)).expect(case.file);
         assert_eq!(log, case.log, "{}", case.file);
     }
     let expected = fs::read_to_string(examples().join("expected.txt")).expect("expected.txt");
-    assert!(expected.starts_with(&expected_lines()));
+    assert!(expected.starts_with(&expected_lines(&marked_cases())));
+    assert!(expected.ends_with(&expected_lines(&wide_cases())));
 }
 
 #[test]
@@ -64,8 +114,8 @@ fn expected_txt_agrees_with_the_judge() {
     let expected = fs::read_to_string(examples().join("expected.txt")).expect("expected.txt");
     assert_eq!(
         expected.lines().count(),
-        16,
-        "thirteen marked logs, and three more"
+        19,
+        "thirteen marked logs, three more, and three of R-3"
     );
     for told in expected.lines() {
         let (file, outcome) = told.split_once(": ").expect("FILE: line");
@@ -74,12 +124,12 @@ fn expected_txt_agrees_with_the_judge() {
     }
 }
 
-/// Writes the marked logs anew:
+/// Writes the marked logs anew, and those of R-3:
 /// `cargo test --release --test marked -- --ignored`.
 #[test]
 #[ignore = "writes files"]
 fn write_the_marked_logs() {
-    for case in marked_cases() {
+    for case in marked_cases().into_iter().chain(wide_cases()) {
         fs::write(examples().join(case.file), case.log).expect(case.file);
     }
 }

@@ -4,8 +4,8 @@ mod common;
 
 use claysaucer_bench::number::MALFORMED;
 use claysaucer_bench::{
-    malformed, verdict, Choice, CollectorPlace, HandshakePhase, MarkStage, MutatorPlace,
-    RoundStage, State, Store, BOTH_FIELDS,
+    bit, malformed, set_of, verdict, Choice, CollectorPlace, HandshakePhase, MarkStage,
+    MutatorPlace, RoundStage, State, Store, BOTH_FIELDS,
 };
 use common::{about_to_write, collector_marks, mutator_marks, number, opening, FREE_CELL};
 
@@ -40,14 +40,15 @@ fn allows(name: &str, sound: &State, change: impl Fn(&mut State)) {
 fn counts_out_of_range() {
     let state = opening();
     breaks("N 0", &state, |s| s.n = 0);
-    breaks("N 33", &state, |s| s.n = 33);
+    breaks("N 65", &state, |s| s.n = 65);
     breaks("N 255", &state, |s| s.n = 255);
     breaks("M 0", &state, |s| s.m = 0);
     breaks("M 5", &state, |s| s.m = 5);
     breaks("M 255", &state, |s| s.m = 255);
-    let largest = State::opening(&[Some([0, 0]); 32], &[u32::MAX; 4]);
+    let largest = State::opening(&[Some([0, 0]); 64], &[u64::MAX; 4]);
     assert!(!malformed(&largest));
-    breaks("N 33 from 32", &largest, |s| s.n = 33);
+    breaks("N 65 from 64", &largest, |s| s.n = 65);
+    breaks("N 63 from 64", &largest, |s| s.n = 63);
     breaks("M 5 from 4", &largest, |s| s.m = 5);
 }
 
@@ -103,7 +104,9 @@ fn the_lock_of_no_process() {
 fn sets_out_of_range() {
     let state = opening();
     breaks("roots", &state, |s| s.mutators[0].roots = 0b1000);
-    breaks("roots, top bit", &state, |s| s.mutators[1].roots = 1 << 31);
+    for top in [31, 32, 63] {
+        breaks("roots, top bit", &state, |s| s.mutators[1].roots = 1 << top);
+    }
     breaks("mutator's list", &state, |s| {
         s.mutators[0].own.list = 0b1000
     });
@@ -132,6 +135,27 @@ fn sets_out_of_range() {
     round.collector.place = CollectorPlace::Row1Round(RoundStage::Poll);
     breaks("mutators left", &round, |s| s.collector.awaited = 0b100);
     allows("mutators left", &round, |s| s.collector.awaited = 0b11);
+}
+
+/// "Raise N to 64". Each N has its own last cell and its own sets.
+#[test]
+fn every_number_of_cells() {
+    for n in 1..=64u8 {
+        let cells = vec![Some([0, 0]); usize::from(n)];
+        let state = State::opening(&cells, &[set_of(n)]);
+        allows("all roots", &state, |_| {});
+        allows("the last cell", &state, |s| s.cells[0].fields = [n, n]);
+        breaks("a cell above", &state, |s| s.cells[0].fields[0] = n + 1);
+        if n < 64 {
+            let above = bit(n + 1);
+            breaks("roots", &state, |s| s.mutators[0].roots |= above);
+            breaks("list", &state, |s| s.collector.own.list = above);
+            breaks("system's list", &state, |s| s.system.list = above);
+            breaks("unused cell", &state, |s| {
+                s.cell_mut(n + 1).occupied = true;
+            });
+        }
+    }
 }
 
 /// None, one or both of the two fields are left, and no third.
@@ -196,7 +220,7 @@ fn a_free_cell_that_is_not_zero() {
 
 #[test]
 fn cells_above_n_that_are_not_zero() {
-    for r in [3, 31] {
+    for r in [3, 31, 32, 63] {
         breaks("occupied", &opening(), |s| s.cells[r].occupied = true);
         breaks("mark", &opening(), |s| s.cells[r].mark = true);
         breaks("field", &opening(), |s| s.cells[r].fields[1] = 1);

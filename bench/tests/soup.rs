@@ -6,11 +6,17 @@ use claysaucer_bench::{judge, Choice, Outcome, Random};
 use common::random_choice;
 
 /// A million inputs, a third each: bytes, bytes after a header, records with
-/// a right check after a header.
+/// a right check after a header. The header is of version 1 or of version 2.
 #[test]
 fn a_million_short_inputs() {
-    const HEADER: [u8; 21] = [
-        0x4D, 0x47, 0x54, 1, 0, 2, 2, 1, 0, 1, 0, 0, 0, 1, 0, 0, 0, 1, 0, 0, 0,
+    const HEADERS: [&[u8]; 2] = [
+        &[
+            0x4D, 0x47, 0x54, 1, 0, 2, 2, 1, 0, 1, 0, 0, 0, 1, 0, 0, 0, 1, 0, 0, 0,
+        ],
+        &[
+            0x4D, 0x47, 0x54, 2, 0, 2, 2, 1, 0, 1, 0, 0, 0, 1, 0, 0, 0, 0, 0, 0, 0, 1, 0, 0, 0, 0,
+            0, 0, 0,
+        ],
     ];
     let mut random = Random::new(13);
     let mut stops = [0u32; 15];
@@ -18,7 +24,7 @@ fn a_million_short_inputs() {
     for round in 0..1_000_000 {
         log.clear();
         if round % 3 != 0 {
-            log.extend(HEADER);
+            log.extend(HEADERS[round % 2]);
         }
         for _ in 0..random.below(8) {
             match round % 3 {
@@ -33,10 +39,18 @@ fn a_million_short_inputs() {
     assert_eq!((stops[1], stops[11]), (0, 0), "{stops:?}");
 }
 
-/// Every change of a single byte of a short sound log.
+/// Every change of a single byte of a short sound log, of either version.
 #[test]
 fn one_byte_changed() {
-    let mut log = vec![0x4D, 0x47, 0x54, 1, 0, 2, 1, 1, 2, 1, 1, 0, 1, 3, 0, 0, 0];
+    let header = [0x4D, 0x47, 0x54, 1, 0, 2, 1, 1, 2, 1, 1, 0, 1, 3, 0, 0, 0];
+    change_each_byte(&header);
+    let mut wide = [&header[..], &[0; 4]].concat();
+    wide[3] = 2;
+    change_each_byte(&wide);
+}
+
+fn change_each_byte(header: &[u8]) {
+    let mut log = header.to_vec();
     for choice in [
         Choice::operation(1, 3, 1, 0, 2),
         Choice::own(1),
@@ -56,8 +70,8 @@ fn one_byte_changed() {
         for other in (0..=255).filter(|&other| other != byte) {
             log[at] = other;
             let outcome = judge(&log);
-            if at >= 17 {
-                assert_eq!((outcome.steps, outcome.stop), ((at as u32 - 17) / 8, 13));
+            if let Some(after) = at.checked_sub(header.len()) {
+                assert_eq!((outcome.steps, outcome.stop), (after as u32 / 8, 13));
             }
         }
         log[at] = byte;

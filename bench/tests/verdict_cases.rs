@@ -72,7 +72,7 @@ fn changed(change: impl FnOnce(&mut State)) -> State {
 }
 
 /// The ground, with these roots of mutator p.
-fn with_roots(p: u8, roots: u32) -> State {
+fn with_roots(p: u8, roots: u64) -> State {
     changed(|state| state.mutator_mut(p).roots = roots)
 }
 

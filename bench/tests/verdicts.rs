@@ -3,7 +3,7 @@
 mod common;
 
 use claysaucer_bench::{
-    verdict, Cell, HandshakePhase, HandshakeType, MarkStage, MutatorPlace, State, Store,
+    bit, verdict, Cell, HandshakePhase, HandshakeType, MarkStage, MutatorPlace, State, Store,
 };
 use common::{about_to_write, mutator_marks, opening, FREE_CELL};
 
@@ -139,7 +139,7 @@ fn the_least_black_cell_is_given() {
 fn a_grey_cell_is_not_black() {
     let mut naming = heap([[2, 0], [0, 0], [0, 0], [0, 0]]);
     whiten(&mut naming, 2);
-    let lists: [fn(&mut State) -> &mut u32; 3] = [
+    let lists: [fn(&mut State) -> &mut u64; 3] = [
         |state| &mut state.collector.own.list,
         |state| &mut state.mutators[0].own.list,
         |state| &mut state.system.list,
@@ -290,11 +290,78 @@ fn malformed_comes_before_all() {
 }
 
 #[test]
-fn thirty_two_cells_in_a_row() {
-    let mut cells: Vec<_> = (2..=32).map(|next| Some([0, next])).collect();
-    cells.push(Some([0, 0]));
-    let mut state = State::opening(&cells, &[1]);
-    assert_eq!(verdict(&state), (0, 0));
-    free(&mut state, 32);
-    assert_eq!(verdict(&state), (1, 32));
+fn cells_in_a_row() {
+    for last in [32, 33, 63, 64] {
+        let mut cells: Vec<_> = (2..=last).map(|next| Some([0, next])).collect();
+        cells.push(Some([0, 0]));
+        let mut state = State::opening(&cells, &[1]);
+        assert_eq!(verdict(&state), (0, 0));
+        free(&mut state, last);
+        assert_eq!(verdict(&state), (1, last));
+    }
+}
+
+/// 64 occupied cells without fields, and one mutator without roots.
+fn sixty_four() -> State {
+    State::opening(&[Some([0, 0]); 64], &[0])
+}
+
+/// Each way to hold a cell, and each cell.
+#[test]
+fn every_cell_may_be_held_and_loose() {
+    let holds: [fn(&mut State, u8); 4] = [
+        |state, r| state.mutators[0].roots = bit(r),
+        |state, r| {
+            state.mutators[0].place = MutatorPlace::StoreWrite;
+            state.mutators[0].target = 1;
+            state.mutators[0].honorary = r;
+        },
+        |state, r| state.collector.own.buffer.push_back(field_store(r, 0)),
+        |state, r| {
+            state
+                .collector
+                .own
+                .buffer
+                .push_back(field_store(r % 64 + 1, r))
+        },
+    ];
+    for hold in holds {
+        for r in 1..=64 {
+            let mut state = sixty_four();
+            hold(&mut state, r);
+            assert_eq!(verdict(&state), (0, 0));
+            free(&mut state, r);
+            assert_eq!(verdict(&state), (1, r));
+        }
+    }
+}
+
+/// Of two free cells that are held, the less is given.
+#[test]
+fn the_least_free_cell_of_64_is_given() {
+    for (less, more) in [(1, 64), (32, 33), (33, 64), (63, 64)] {
+        let mut state = sixty_four();
+        state.mutators[0].roots = bit(less) | bit(more);
+        free(&mut state, more);
+        assert_eq!(verdict(&state), (1, more));
+        free(&mut state, less);
+        assert_eq!(verdict(&state), (1, less));
+    }
+}
+
+/// Each cell is black and names a white one; greyed, it is not black.
+#[test]
+fn every_cell_may_be_black() {
+    for r in 1..=64 {
+        let white = r % 64 + 1;
+        let mut state = sixty_four();
+        state.cell_mut(r).fields = [0, white];
+        whiten(&mut state, white);
+        assert_eq!(verdict(&state), (2, r));
+        let mut listed = state.clone();
+        listed.system.list = bit(r);
+        assert_eq!(verdict(&listed), (0, 0));
+        state.system.list = !bit(r);
+        assert_eq!(verdict(&state), (2, r));
+    }
 }

@@ -1,5 +1,5 @@
-//! Holds the two judges against each other on generated logs: half of them of
-//! the mix as it comes, half damaged.
+//! Holds the two judges against each other on generated logs of both versions:
+//! half of them of the mix as it comes, half damaged.
 //!
 //! `compare SEED COUNT`
 
@@ -19,7 +19,7 @@ fn main() -> ExitCode {
         eprintln!("usage: compare SEED COUNT");
         return ExitCode::FAILURE;
     };
-    let mut generator = Generator::new(seed);
+    let mut generator = Generator::of_both(seed);
     let mut damages = Damage::ALL.into_iter().cycle();
     let mut comparison = Comparison::new();
     for i in 0..count {

@@ -1,8 +1,9 @@
-//! Prints the coverage table of the generator as Markdown.
+//! Prints the coverage table of the generator as Markdown, of so many logs of
+//! each version.
 //!
 //! `coverage [SEED] [LOGS]`
 
-use claysaucer_bench::{Coverage, Generator};
+use claysaucer_bench::Coverage;
 use std::process::ExitCode;
 
 const SEED: u64 = 1;
@@ -18,11 +19,7 @@ fn main() -> ExitCode {
         eprintln!("usage: coverage [SEED] [LOGS]");
         return ExitCode::FAILURE;
     };
-    let mut generator = Generator::new(seed);
-    let mut coverage = Coverage::new();
-    for _ in 0..logs {
-        coverage.add(&generator.next_log());
-    }
+    let coverage = Coverage::of_generated(seed, logs);
     print!("{}", coverage.markdown());
     for name in coverage.missing() {
         eprintln!("missing: {name}");

@@ -3,15 +3,21 @@
 //!
 //! `replay [SEED] [REPETITIONS]`
 
-use claysaucer_bench::proved::JUDGES;
+use claysaucer_bench::proved::{judges, Named};
 use claysaucer_bench::timing::{in_turns, micros};
-use claysaucer_bench::{judge, Coverage, Event, Generator, RECORD_LENGTH};
+use claysaucer_bench::{judge, Coverage, Event, Generator, Version, RECORD_LENGTH};
 use std::process::ExitCode;
 
 const SEED: u64 = 1;
 const REPETITIONS: usize = 200;
-/// N and M of each log.
-const SIZES: [(u8, u8); 3] = [(2, 4), (8, 3), (32, 4)];
+/// The version, N and M of each log.
+const SIZES: [Size; 4] = [
+    (Version::One, 2, 4),
+    (Version::One, 8, 3),
+    (Version::One, 32, 4),
+    (Version::Two, 64, 4),
+];
+type Size = (Version, u8, u8);
 /// The records of each log, and the shorter ones it begins with.
 const RECORDS: [usize; 4] = [1_000, 2_000, 4_000, 8_000];
 /// What a log must have.
@@ -24,9 +30,10 @@ const EVENTS: [Event; 4] = [
 
 /// A log of all the records that has each of the events, and how often it has
 /// them.
-fn busy_log(generator: &mut Generator, (n, m): (u8, u8), records: usize) -> (Vec<u8>, String) {
+fn busy_log(generator: &mut Generator, size: Size, records: usize) -> (Vec<u8>, String) {
+    let (version, n, m) = size;
     loop {
-        let log = generator.log_over(n, m, records);
+        let log = generator.log_over(version, n, m, records);
         if let Some(told) = events_of(&log) {
             return (log, told);
         }
@@ -47,20 +54,20 @@ fn events_of(log: &[u8]) -> Option<String> {
 
 /// The columns: the times of each judge, and of each its ratio to the Rust
 /// judge, which is the last.
-fn head() {
+fn head(judges: &[Named]) {
     print!("| records |");
-    for (name, _) in JUDGES {
+    for (name, _) in judges {
         print!(" {name}, median us | least | ns a record |");
     }
-    for (name, _) in &JUDGES[..JUDGES.len() - 1] {
+    for (name, _) in &judges[..judges.len() - 1] {
         print!(" {name} to Rust, of medians | of least |");
     }
-    println!("\n|{}", "---:|".repeat(5 * JUDGES.len() - 1));
+    println!("\n|{}", "---:|".repeat(5 * judges.len() - 1));
 }
 
 /// One row of the table: a log's first records.
-fn row(log: &[u8], records: usize, repetitions: usize) {
-    let times = in_turns(JUDGES, log, repetitions, 1);
+fn row(judges: &[Named], log: &[u8], records: usize, repetitions: usize) {
+    let times = in_turns(judges, log, repetitions, 1);
     let times: Vec<_> = times
         .iter()
         .map(|own| (micros(own.median()), micros(own.least())))
@@ -78,26 +85,23 @@ fn row(log: &[u8], records: usize, repetitions: usize) {
 }
 
 /// The table of one size.
-fn replay(generator: &mut Generator, size: (u8, u8), repetitions: usize) {
+fn replay(generator: &mut Generator, size: Size, repetitions: usize) {
+    let (version, n, m) = size;
+    let judges = judges(version);
     let longest = RECORDS[RECORDS.len() - 1];
     let (log, events) = busy_log(generator, size, longest);
     let outcome = judge(&log);
     assert_eq!(outcome.steps as usize, longest, "every record is taken");
-    for (name, other) in JUDGES {
+    for (name, other) in &judges {
         assert_eq!(outcome, other(&log), "{name} agrees");
     }
-    println!(
-        "\nN = {}, M = {}. In {longest} records: {events}.\n",
-        size.0, size.1
-    );
-    head();
+    let version = version.number();
+    println!("\nN = {n}, M = {m}, version {version}. In {longest} records: {events}.\n");
+    head(&judges);
     let header = log.len() - longest * RECORD_LENGTH;
     for records in RECORDS {
-        row(
-            &log[..header + records * RECORD_LENGTH],
-            records,
-            repetitions,
-        );
+        let log = &log[..header + records * RECORD_LENGTH];
+        row(&judges, log, records, repetitions);
     }
 }
 

@@ -1,12 +1,13 @@
 //! Times the verdict on heaps of several shapes: a log of a header and no
 //! record, so that a call reads a heap, opens it and judges it. What the
-//! shapes differ in is reach; where nothing is held there is none.
+//! shapes differ in is reach; where nothing is held there is none. A heap that
+//! version 1 has no room for is of version 2.
 //!
 //! `verdicts [REPETITIONS]`
 
-use claysaucer_bench::proved::JUDGES;
+use claysaucer_bench::proved::{judges, Named};
 use claysaucer_bench::timing::{in_turns, micros};
-use claysaucer_bench::{bit, judge, set_of, Header, CELLS};
+use claysaucer_bench::{bit, judge, set_of, Header, Version, CELLS};
 use std::process::ExitCode;
 
 const REPETITIONS: usize = 200;
@@ -18,7 +19,7 @@ struct Shape {
     name: &'static str,
     /// Both fields of the cell r.
     fields: fn(r: u8, n: u8) -> [u8; 2],
-    roots: fn(n: u8) -> u32,
+    roots: fn(n: u8) -> u64,
 }
 
 const SHAPES: [Shape; 4] = [
@@ -50,26 +51,37 @@ impl Shape {
             let [first, second] = (self.fields)(r, n);
             [1, first, second]
         };
-        Header::new((1..=n).map(cell).collect(), vec![(self.roots)(n)]).bytes()
+        let cells = (1..=n).map(cell).collect();
+        Header::new(Version::with_room(n), cells, vec![(self.roots)(n)]).bytes()
     }
 }
 
-/// One row: the heap of n cells on each judge, in nanoseconds a call.
+/// The judges that have a column: all that read version 1.
+fn columns() -> Vec<Named> {
+    judges(Version::One)
+}
+
+/// One row: the heap of n cells on each judge, in nanoseconds a call. A judge
+/// that does not read its version has a dash.
 fn row(shape: &Shape, n: u8, repetitions: usize) {
     let log = shape.log(n);
-    for (name, other) in JUDGES {
+    let judges = judges(Version::with_room(n));
+    for (name, other) in &judges {
         assert_eq!(other(&log), judge(&log), "{name} agrees");
     }
-    let times = in_turns(JUDGES, &log, repetitions, CALLS);
-    let medians: Vec<_> = times
-        .iter()
-        .map(|own| format!("{:.0}", micros(own.median()) * 1e3))
-        .collect();
+    let times = in_turns(&judges, &log, repetitions, CALLS);
+    let median = |(name, _): &Named| {
+        let at = judges.iter().position(|(own, _)| own == name);
+        at.map_or("-".to_string(), |at| {
+            format!("{:.0}", micros(times[at].median()) * 1e3)
+        })
+    };
+    let medians: Vec<_> = columns().iter().map(median).collect();
     println!("| {n} | {} |", medians.join(" | "));
 }
 
 fn table(shape: &Shape, repetitions: usize) {
-    let names: Vec<_> = JUDGES
+    let names: Vec<_> = columns()
         .iter()
         .map(|(name, _)| format!("{name}, ns"))
         .collect();

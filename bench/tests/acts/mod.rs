@@ -46,8 +46,8 @@ impl Act {
             'Y' => mutator.value = self.v,
             'O' => mutator.honorary = self.v,
             'C' => mutator.root = self.v,
-            'L' => mutator.unmarked = u32::from(self.v),
-            'R' => mutator.roots = u32::from(self.v),
+            'L' => mutator.unmarked = u64::from(self.v),
+            'R' => mutator.roots = u64::from(self.v),
             letter => panic!("no change of a mutator has the letter {letter}"),
         }
     }
@@ -60,8 +60,8 @@ impl Act {
             'C' => collector.child = self.v,
             'L' if collector.place.round_stage().is_some() => collector.awaited = self.v,
             'L' if collector.place.keeps_fields() => collector.unscanned = self.v,
-            'L' => collector.unswept = u32::from(self.v),
-            'W' => collector.own.list = u32::from(self.v),
+            'L' => collector.unswept = u64::from(self.v),
+            'W' => collector.own.list = u64::from(self.v),
             letter => panic!("no change of the collector has the letter {letter}"),
         }
     }

@@ -143,7 +143,7 @@ pub fn random_state(random: &mut Random) -> State {
     state.allocation_sense = random.percent(50);
     state.phase = phase(random);
     state.lock = random.percent(40).then(|| random.below(3) as u8);
-    state.system.list = random.below(8);
+    state.system.list = u64::from(random.below(8));
     if random.percent(40) {
         state.system.kind = hand_type(random);
         state.system.phase = hand_phase(random);
@@ -155,7 +155,7 @@ pub fn random_state(random: &mut Random) -> State {
 }
 
 fn random_process(own: &mut Process, stage: Option<MarkStage>, random: &mut Random) {
-    own.list = random.below(8);
+    own.list = u64::from(random.below(8));
     own.look = stage > Some(MarkStage::Look) && random.percent(50);
     own.sense = stage > Some(MarkStage::ReadSense) && random.percent(50);
     if stage == Some(MarkStage::Unlock) {
@@ -184,7 +184,7 @@ fn random_collector(collector: &mut Collector, random: &mut Random) {
         collector.child = random.within(1, 3) as u8;
     }
     if matches!(place, CollectorPlace::Row10Look | CollectorPlace::Row10Free) {
-        collector.unswept = random.below(8);
+        collector.unswept = u64::from(random.below(8));
     }
     if place == CollectorPlace::Row10Free {
         collector.doomed = cell;
@@ -195,7 +195,7 @@ fn random_mutator(mutator: &mut Mutator, random: &mut Random) {
     let place = random.pick(&MutatorPlace::all());
     mutator.place = place;
     random_process(&mut mutator.own, place.mark_stage(), random);
-    mutator.roots = random.below(8);
+    mutator.roots = u64::from(random.below(8));
     mutator.flag = random.percent(30);
     if random.percent(40) {
         mutator.in_step = random.percent(50);
@@ -210,7 +210,7 @@ fn random_mutator(mutator: &mut Mutator, random: &mut Random) {
         mutator.value = random.within(u32::from(marks_new), 3) as u8;
     }
     if let MutatorPlace::RootsMark(stage) = place {
-        mutator.unmarked = random.below(8);
+        mutator.unmarked = u64::from(random.below(8));
         if stage != MarkStage::Look {
             mutator.root = random.within(1, 3) as u8;
         }
@@ -260,10 +260,10 @@ fn small(random: &mut Random) -> u8 {
 }
 
 /// Mostly a small set.
-fn set(random: &mut Random) -> u32 {
+fn set(random: &mut Random) -> u64 {
     match random.percent(5) {
-        true => random.next_u64() as u32,
-        false => random.below(8),
+        true => random.next_u64(),
+        false => u64::from(random.below(8)),
     }
 }
 

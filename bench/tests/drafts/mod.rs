@@ -33,7 +33,7 @@ impl Draft {
         draft
     }
 
-    fn of(cells: &[Option<[u8; 2]>], roots: &[u32]) -> Draft {
+    fn of(cells: &[Option<[u8; 2]>], roots: &[u64]) -> Draft {
         Draft {
             rest: State::opening(cells, roots),
             seats: Default::default(),
@@ -91,7 +91,7 @@ impl Draft {
             'u' => occupy(state, number),
             'k' => state.cell_mut(number).mark = true,
             'd' => state.cell_mut(number).fields[usize::from(p)] = v,
-            'h' => state.system.list = u32::from(v),
+            'h' => state.system.list = u64::from(v),
             letter => panic!("no change of a state has the letter {letter}"),
         }
     }

@@ -1,4 +1,4 @@
--- Sets of cells (and of mutators) as one number each, by the cells' numbers: "Cells 1..N, N from 1 to 32; 0 is null."
+-- Sets of cells (and of mutators) as one number each, by the cells' numbers: "Cells 1..N", "0 is null."
 -- The number x, from 1, is in a set where the binary digit x - 1 of the set is 1: "a 32-bit root set, bit 0 for cell
 -- 1".
 -- A set of the program is a u64, so it holds no number above 64. The laws of proofs/ say the same of each operation,

@@ -1,11 +1,12 @@
--- The marked table: document 01's "Stalls we know". Each case is a log with its three numbers; case 12 has two logs.
+-- The marked table: document 01's "Stalls we know". Each case is a log with its three numbers; case 12 has two logs, as
+-- document 02 has them, and two whole headers of 33 cells beside them.
 -- Where a line of document 01 gives no steps, none is taken; where it gives no verdict, it is 0, and 4 on stop 12.
 -- Assumes nothing.
 use mathlib.Core.Path.{_≡_}
 use mathlib.Core.List.{List, [], _∷_, _++_, dropLast}
 use mathlib.Mathlib.Data.List.Defs.{Forall}
-use Prim.Native.Nat.{ℕ, zero, suc, _+_}
-use lib.ListN.{set}
+use Prim.Native.Nat.{ℕ, zero, suc, _+_, _*_}
+use lib.ListN.{set, replicate}
 use Rattle.state.specs.declared.Handshake.the-variants as hand
 use Rattle.state.specs.declared.State.{State}
 use Rattle.state.specs.States.{processOf}
@@ -70,6 +71,10 @@ storeNull = store 1 1 0 0 ++ next 1
 abbrev pub round : List ℕ
 round = next 0 ++ next 0 ++ naming 0 1 ++ answer 1 ++ next 1 ++ next 1 ++ naming 0 1
 
+-- a header of 33 free cells and one mutator, in version v, with no root in w bytes
+abbrev pub free33 : ℕ → ℕ → List ℕ
+free33 v w = 0x4D ∷ 0x47 ∷ 0x54 ∷ v ∷ 0x00 ∷ 33 ∷ 0x01 ∷ replicate (3 * 33 + w) 0
+
 -- ---- the table
 pub record Case : Type 0 where
   pub number : ℕ
@@ -108,9 +113,11 @@ table =
     ∷ case 10 (base ++ times 9 storeNull) (steps 17 stop 9 verdict 0)
     -- 11. ".. 7 steps, verdict 0, both phases Idle."
     ∷ case 11 (base ++ round) (steps 7 stop 0 verdict 0)
-    -- 12. "Version 2, or N 33: stop 12."
-    ∷ case 12 (set (base ++ a) versionPlace 2) (steps 0 stop 12 verdict 4)
+    -- 12. "Version 2, or N 33: stop 12."; "Marked case 12 now refuses version 3, and N of 33 only in version 1."
+    ∷ case 12 (set (base ++ a) versionPlace 3) (steps 0 stop 12 verdict 4)
     ∷ case 12 (set (base ++ a) cellsPlace 33) (steps 0 stop 12 verdict 4)
+    ∷ case 12 (free33 1 4) (steps 0 stop 12 verdict 4)
+    ∷ case 12 (free33 2 8) (steps 0 stop 0 verdict 0)
     ∷ []
 
 -- "both phases Idle": the system's handshake phase and mutator 1's

@@ -13,6 +13,7 @@ mod same;
 
 use base::Refusal;
 use header::bytes::byte;
+use memory::Memory;
 use script::Change;
 use script::digit;
 use script::rest;
@@ -43,9 +44,9 @@ fn choice(s: &[u8]) -> Choice {
 }
 
 fn ground() -> State {
-    let mut field0 = [0u8; 32];
+    let mut field0 = [0u8; Memory::CELLS];
     field0[0] = 2;
-    let field1 = [0u8; 32];
+    let field1 = [0u8; Memory::CELLS];
     let roots = [3, 1, 0, 0];
     State::opening(Heap {
         cells: 3,

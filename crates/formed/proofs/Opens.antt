@@ -19,7 +19,7 @@ use Rattle.memory.specs.Memories.{maxCells, maxProcesses, atCell, noBuffer}
 use Rattle.memory_formed.specs.WellFormed.{MemoryFormed}
 use Rattle.state.specs.declared.opening.Heap.{Heap}
 use Rattle.state.specs.States.{noProcess, processOf}
-use Rattle.state.specs.Openings.{openMark, openMarks, openMemory, openCollector, openMutator, openProcess, openSystem, rootsAt, openingOf}
+use Rattle.state.specs.Openings.{openMemory, openCollector, openMutator, openProcess, openSystem, rootsAt, openingOf}
 use Rattle.formed.specs.Fits.{heapField, HeapFits, idle, MutatorFits, round, CollectorFits, WellFormed}
 use Rattle.formed.proofs.Places.{AllBelow, all-below}
 
@@ -37,22 +37,10 @@ none-at (suc k) (suc p) i = none-at k p i
 
 module _ (h : Heap) (w : HeapFits h) where
   -- ---- memory
-  free-mark-opens : (c : ℕ) → memberOf (h .used) c ≡ false → atCell (openMarks (h .used)) c false ≡ false
-  unfolding openMarks
-  free-mark-opens c e = go (ℕ-discrete c 0) (decLt (c - 1) maxCells)
-    where
-      go : Dec (c ≡ 0) → Dec (c - 1 < maxCells) → atCell (openMarks (h .used)) c false ≡ false
-      go (yes z) l = rw (eq-eqb c 0 z) refl
-      go (no z) (yes l) =
-          let k : c - 1 + 1 ≡ c = omega arith in
-          rw (ne-eqb c 0 z, listed-at (openMark (h .used)) maxCells (c - 1) false l, k) e
-      go (no z) (no l) = rw (ne-eqb c 0 z) (beyond (openMarks (h .used)) false (c - 1) maxCells (length-listed (openMark (h .used)) maxCells) (omega arith))
-
   memory-opens : MemoryFormed (openMemory h)
-  unfolding openMemory openMarks
+  unfolding openMemory
   memory-opens =
       record {
-        marks-sized = length-listed (openMark (h .used)) maxCells;
         field0-sized = w .sized0;
         field1-sized = w .sized1;
         buffers-sized = refl;
@@ -62,7 +50,7 @@ module _ (h : Heap) (w : HeapFits h) where
         few-processes = w .most;
         used-cells = λ c e. below-range (h .used) (h .cells) c (w .used) e;
         holder = λ p e. absurd (omega arith);
-        free-mark = free-mark-opens;
+        free-mark = λ c e. e;
         free-field = w .free;
         buffers = λ p l. rw (getD-replicate maxProcesses p emptyBuffer noBuffer (omega (arith, w .most))) (empty-fits (h .cells));
         no-process = λ p l k. getD-replicate maxProcesses p emptyBuffer noBuffer k;

@@ -222,7 +222,7 @@ abbrev pub heapField : Heap → ℕ → ℕ → ℕ
 heapField h c f = pick (eqb f 0) (atCell (h .field0) c 0) (atCell (h .field1) c 0)
 
 pub record HeapFits (h : Heap) : Type 0 where
-  -- "N from 1 to 32"; "M from 1 to 4", and the collector
+  -- N from 1 to 64; "M from 1 to 4", and the collector
   pub cells : IsCell maxCells (h .cells)
   pub some : 1 < h .processes
   pub most : h .processes ≤ maxProcesses

@@ -7,7 +7,7 @@ use mathlib.Core.Path.{_≡_, refl, sym, ap, _∙_}
 use mathlib.Core.Bool.{Bool, true, false}
 use mathlib.Core.List.{List, [], _∷_}
 use mathlib.Core.Logic.{_⊎_, inl, inr}
-use Prim.Native.Nat.{ℕ, zero, suc, _+_, _-_, _≤_, _<_}
+use Prim.Native.Nat.{ℕ, zero, suc, _+_, _-_, _*_, _≤_, _<_}
 use native.Mathlib.Omega.{arith}
 use lib.Dec.{eqb, leb}
 use lib.ListN.{length, getD, take}
@@ -16,15 +16,16 @@ use borrow.Author.Tests.{leb-true, eqb-true, le-leb, eq-eqb, ne-eqb}
 use Rattle.base.specs.Pick.{pick}
 use Rattle.base.specs.Every.{_and_}
 use Rattle.base.proofs.Everies.{and-both, every-at, every-all}
+use Rattle.base.proofs.Picking.{pick-ind}
 use Rattle.cells.specs.Sets.{isNone, memberOf, Member, Sub, minusOf, belowOf}
-use Rattle.cells.proofs.Bools.{not-both}
+use Rattle.cells.proofs.Bools.{split, not-both}
 use Rattle.cells.proofs.Members.{isNone-true, isNone-empty}
 use Rattle.cells.proofs.Subsets.{sub-of-minus, minus-of-sub}
 use Rattle.cells.proofs.Belows.{below-none, below-of}
 use Rattle.memory.specs.Memories.{maxCells, maxMutators}
-use Rattle.header.specs.Bytes.{byteAt, pairAt}
-use Rattle.header.specs.Header.{maxLog, letterM, letterG, letterT, versionPlace, theVersion, cellsSaid, mutatorsSaid, cellFields, cellPlace, rootsPlace, sizeOf, occupiedAt, fieldAt, rootsRead, usedAmong, lettersOf, countsOf, namesOf, cellSaidFitsOf, cellSaidAtOf, rootsFitOf, rootsAtOf, cellsSaidFitOf, allRootsFitOf, heapFitsOf, admittedOf}
-use Rattle.header.specs.Admitted.{CellSaid, OccupiedSaid, FreeSaid, saidOf, fieldSaid, rootSet, Admitted}
+use Rattle.header.specs.Bytes.{byteAt}
+use Rattle.header.specs.Header.{maxLog, letterM, letterG, letterT, version1, version2, rootsSizeOf, mostCellsOf, versionSaid, cellsSaid, mutatorsSaid, cellFields, cellPlace, rootsPlace, sizeOf, occupiedAt, fieldAt, rootsRead, usedAmong, isVersionOf, lettersOf, countsOf, namesOf, cellSaidFitsOf, cellSaidAtOf, rootsFitOf, rootsAtOf, cellsSaidFitOf, allRootsFitOf, heapFitsOf, admittedOf}
+use Rattle.header.specs.Admitted.{CellSaid, OccupiedSaid, FreeSaid, saidOf, fieldSaid, rootSet, IsVersion, Admitted}
 use Rattle.header.specs.Statements.{TestedExactly}
 use Rattle.header.proofs.Used.{in-used, used-in}
 
@@ -32,7 +33,7 @@ use Rattle.header.proofs.Used.{in-used, used-in}
 pub record Tests (log : List ℕ) : Type 0 where
   pub long : leb (length log) maxLog ≡ true
   pub letters : lettersOf log ≡ true
-  pub counts : countsOf (cellsSaid log) (mutatorsSaid log) ≡ true
+  pub counts : countsOf (mostCellsOf (versionSaid log)) (cellsSaid log) (mutatorsSaid log) ≡ true
   pub short : leb (sizeOf log) (length log) ≡ true
   pub heap : heapFitsOf log (cellsSaid log) (mutatorsSaid log) (usedAmong log (cellsSaid log)) ≡ true
 
@@ -41,7 +42,7 @@ unfolding admittedOf
 tests log e =
     let a = and-both (leb (length log) maxLog) _ e in
     let b = and-both (lettersOf log) _ (a .1) in
-    let c = and-both (countsOf (cellsSaid log) (mutatorsSaid log)) _ (b .1) in
+    let c = and-both (countsOf (mostCellsOf (versionSaid log)) (cellsSaid log) (mutatorsSaid log)) _ (b .1) in
     let d = and-both (leb (sizeOf log) (length log)) _ (c .1) in
     record { long = a .0; letters = b .0; counts = c .0; short = d .0; heap = d .1 }
 
@@ -49,26 +50,30 @@ pub tested : (log : List ℕ) → Tests log → admittedOf log ≡ true
 unfolding admittedOf
 tested log t = rw (t .long, t .letters, t .counts, t .short) (t .heap)
 
-record Counts (n m : ℕ) : Type 0 where
+-- a root set has no more bits than there can be cells
+pub most-cells : (v : ℕ) → mostCellsOf v ≤ maxCells
+most-cells v = pick-ind (λ (w : ℕ). 8 * w ≤ maxCells) (eqb v version2) (λ _. omega arith) (λ _. omega arith)
+
+record Counts (most n m : ℕ) : Type 0 where
   some-cells : 0 < n
-  few-cells : n ≤ maxCells
+  few-cells : n ≤ most
   some-mutators : 0 < m
   few-mutators : m ≤ maxMutators
 
-counts : (n m : ℕ) → countsOf n m ≡ true → Counts n m
+counts : (most n m : ℕ) → countsOf most n m ≡ true → Counts most n m
 unfolding countsOf
-counts n m e =
+counts most n m e =
     let a = and-both (leb 1 n) _ e in
-    let b = and-both (leb n maxCells) _ (a .1) in
+    let b = and-both (leb n most) _ (a .1) in
     let c = and-both (leb 1 m) _ (b .1) in
-    record { some-cells = leb-true 1 n (a .0); few-cells = leb-true n maxCells (b .0); some-mutators = leb-true 1 m (c .0); few-mutators = leb-true m maxMutators (c .1) }
+    record { some-cells = leb-true 1 n (a .0); few-cells = leb-true n most (b .0); some-mutators = leb-true 1 m (c .0); few-mutators = leb-true m maxMutators (c .1) }
 
-counted : (n m : ℕ) → Counts n m → countsOf n m ≡ true
+counted : (most n m : ℕ) → Counts most n m → countsOf most n m ≡ true
 unfolding countsOf
-counted n m k = rw (le-leb 1 n (k .some-cells), le-leb n maxCells (k .few-cells), le-leb 1 m (k .some-mutators)) (le-leb m maxMutators (k .few-mutators))
+counted most n m k = rw (le-leb 1 n (k .some-cells), le-leb n most (k .few-cells), le-leb 1 m (k .some-mutators)) (le-leb m maxMutators (k .few-mutators))
 
 pub few-mutators : (log : List ℕ) → admittedOf log ≡ true → mutatorsSaid log ≤ maxMutators
-few-mutators log e = counts (cellsSaid log) (mutatorsSaid log) (tests log e .counts) .few-mutators
+few-mutators log e = counts (mostCellsOf (versionSaid log)) (cellsSaid log) (mutatorsSaid log) (tests log e .counts) .few-mutators
 
 -- ---- the letters
 three : (l : List ℕ) → 3 ≤ length l → take 3 l ≡ byteAt l 0 ∷ byteAt l 1 ∷ byteAt l 2 ∷ []
@@ -81,20 +86,33 @@ least : (log : List ℕ) → 3 ≤ sizeOf log
 unfolding rootsPlace cellPlace
 least log = omega arith
 
-letters : (log : List ℕ) → 3 ≤ length log → lettersOf log ≡ true → (take 3 log ≡ letterM ∷ letterG ∷ letterT ∷ []) × (pairAt log versionPlace ≡ theVersion)
+version : (v : ℕ) → isVersionOf v ≡ true → IsVersion v
+unfolding isVersionOf
+version v e = go (split (eqb v version1))
+  where
+    go : (eqb v version1 ≡ true) ⊎ (eqb v version1 ≡ false) → IsVersion v
+    go (inl h) = inl (eqb-true v version1 h)
+    go (inr h) = inr (eqb-true v version2 (rw h at e))
+
+versioned : (v : ℕ) → IsVersion v → isVersionOf v ≡ true
+unfolding isVersionOf
+versioned v (inl e) = rw e refl
+versioned v (inr e) = rw e refl
+
+letters : (log : List ℕ) → 3 ≤ length log → lettersOf log ≡ true → (take 3 log ≡ letterM ∷ letterG ∷ letterT ∷ []) × IsVersion (versionSaid log)
 unfolding lettersOf
 letters log h e =
     let a = and-both (eqb (byteAt log 0) letterM) _ e in
     let b = and-both (eqb (byteAt log 1) letterG) _ (a .1) in
     let c = and-both (eqb (byteAt log 2) letterT) _ (b .1) in
-    (three log h ∙ rw (eqb-true (byteAt log 0) letterM (a .0), eqb-true (byteAt log 1) letterG (b .0), eqb-true (byteAt log 2) letterT (c .0)) refl, eqb-true (pairAt log versionPlace) theVersion (c .1))
+    (three log h ∙ rw (eqb-true (byteAt log 0) letterM (a .0), eqb-true (byteAt log 1) letterG (b .0), eqb-true (byteAt log 2) letterT (c .0)) refl, version (versionSaid log) (c .1))
 
-lettered : (log : List ℕ) → take 3 log ≡ letterM ∷ letterG ∷ letterT ∷ [] → pairAt log versionPlace ≡ theVersion → lettersOf log ≡ true
+lettered : (log : List ℕ) → take 3 log ≡ letterM ∷ letterG ∷ letterT ∷ [] → IsVersion (versionSaid log) → lettersOf log ≡ true
 unfolding lettersOf
 lettered log e v =
     let at : (i : ℕ) → i < 3 → byteAt log i ≡ getD (letterM ∷ letterG ∷ letterT ∷ []) i 0 = λ i h. sym (getD-take 3 log i 0 h) ∙ ap (λ (l : List ℕ). getD l i 0) e in
     rw (eq-eqb (byteAt log 0) letterM (at 0 (omega arith)), eq-eqb (byteAt log 1) letterG (at 1 (omega arith)), eq-eqb (byteAt log 2) letterT (at 2 (omega arith)))
-    (eq-eqb (pairAt log versionPlace) theVersion v)
+    (versioned (versionSaid log) v)
 
 -- ---- a cell
 abbrev pub Names : ℕ → ℕ → Type 0
@@ -204,7 +222,7 @@ module _ (log : List ℕ) where
   pub admitted-clauses : admittedOf log ≡ true → Admitted log
   admitted-clauses e =
       let t = tests log e in
-      let k = counts N M (t .counts) in
+      let k = counts (mostCellsOf (versionSaid log)) N M (t .counts) in
       let s = leb-true (sizeOf log) (length log) (t .short) in
       let l = letters log (omega (arith, least log, s)) (t .letters) in
       let h = heap-fits (t .heap) in
@@ -238,13 +256,13 @@ module _ (log : List ℕ) where
       (record {
         long = le-leb (length log) maxLog (a .not-long);
         letters = lettered log (a .letters) (a .version);
-        counts = counted N M (record { some-cells = a .some-cells; few-cells = a .few-cells; some-mutators = a .some-mutators; few-mutators = a .few-mutators });
+        counts = counted (mostCellsOf (versionSaid log)) N M (record { some-cells = a .some-cells; few-cells = a .few-cells; some-mutators = a .some-mutators; few-mutators = a .few-mutators });
         short = le-leb (sizeOf log) (length log) (a .not-short);
         heap = heap-fitted (record { cell = cell; below = below; roots = λ k l x p. member-of x (a .roots k x l p) });
       })
     where
       member-of : (x : ℕ) → OccupiedSaid log x → Member U x
-      member-of x o = used-in log N x (omega (arith, a .few-cells)) (o .0 .0) (o .0 .1) (o .1)
+      member-of x o = used-in log N x (omega (arith, a .few-cells, most-cells (versionSaid log))) (o .0 .0) (o .0 .1) (o .1)
 
       names-of : (v : ℕ) → (v ≡ 0) ⊎ OccupiedSaid log v → Names U v
       names-of v (inl z) = inl z

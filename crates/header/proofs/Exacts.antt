@@ -4,7 +4,7 @@
 --     heaps-exactly      the sound heaps are those of the admitted logs
 --     openings-exactly   and the openings of the heaps that fit are those of the admitted logs
 use mathlib.Core.Path.{_≡_, refl, sym, ap, _∙_, subst}
-use mathlib.Core.List.{[], _++_}
+use mathlib.Core.List.{List, [], _++_}
 use Prim.Native.Nat.{ℕ, suc, _-_, _≤_, _<_}
 use native.Mathlib.Decide.{decLt}
 use native.Mathlib.Omega.{arith}
@@ -17,12 +17,12 @@ use Rattle.memory.specs.Memories.{maxMutators}
 use Rattle.state.specs.declared.opening.Heap.{Heap}
 use Rattle.state.specs.Openings.{openMemory, openProcess, rootsAt, openingOf}
 use Rattle.formed.specs.Fits.{HeapFits}
-use Rattle.header.specs.Header.{maxLog, cellPlace, rootsPlace, heapOf}
+use Rattle.header.specs.Header.{maxLog, version2, cellPlace, rootsPlace, heapOf}
 use Rattle.header.specs.Admitted.{Sound}
 use Rattle.header.specs.Written.{heapMutators, bytesOf, rootsSaid, asSaid, SaidOpens, WrittenRead, Opens, HeapsExactly, OpeningsExactly}
 use Rattle.header.proofs.Heaps.{heap-sound}
 use Rattle.header.proofs.Littles.{bytes-join, bytes-each}
-use Rattle.header.proofs.Written.{sized, written-bytes, written-admitted, written-said}
+use Rattle.header.proofs.Written.{sized, said-in-two, written-bytes, written-admitted, written-said}
 
 -- ---- what an opening needs of it
 module _ (h : Heap) where
@@ -67,21 +67,26 @@ sound-said h s = rw roots refl
     roots = ext-getD 0 (listed maxMutators (rootsSaid h)) (h .roots) (length-listed (rootsSaid h) maxMutators ∙ sym (s .sized-roots)) (λ k b. listed-at (rootsSaid h) maxMutators k 0 (omega (arith, length-listed (rootsSaid h) maxMutators)) ∙ at k (decLt k (heapMutators h)))
 
 pub written-read : WrittenRead
-written-read h records s = written-said h records (s .fits) ∙ sound-said h s
+written-read v h records i s = written-said v h records i ∙ sound-said h s
 
--- ---- both ways: the log of a heap is its header, with no records
-short : (h : Heap) → HeapFits h → length (bytesOf h ++ []) ≤ maxLog
+-- ---- both ways: the log of a heap is its header in version 2, with no records
+abbrev headerOf : Heap → List ℕ
+headerOf h = bytesOf version2 h ++ []
+
+short : (h : Heap) → HeapFits h → length (headerOf h) ≤ maxLog
 unfolding rootsPlace cellPlace
-short h w = omega (arith, length-append (bytesOf h) [], sized h, w .cells .1, w .most)
+short h w = omega (arith, length-append (bytesOf version2 h) [], sized version2 h, w .cells .1, w .most)
 
-log-opens : (h : Heap) → HeapFits h → Opens (bytesOf h ++ [])
-log-opens h w = record { bytes = bytes-join (bytesOf h) [] (written-bytes h w) (bytes-each [] (omega arith)); admitted = written-admitted h [] w (short h w) }
+log-opens : (h : Heap) → HeapFits h → Opens (headerOf h)
+log-opens h w =
+    let s = said-in-two h w in
+    record { bytes = bytes-join (bytesOf version2 h) [] (written-bytes version2 h s) (bytes-each [] (omega arith)); admitted = written-admitted version2 h [] s (short h w) }
 
 pub heaps-exactly : HeapsExactly
-heaps-exactly h = (λ s. (bytesOf h ++ [], log-opens h (s .fits), written-read h [] s), λ l. subst Sound (l .2) (heap-sound (l .0) (l .1 .admitted)))
+heaps-exactly h = (λ s. (headerOf h, log-opens h (s .fits), written-read version2 h [] (said-in-two h (s .fits)) s), λ l. subst Sound (l .2) (heap-sound (l .0) (l .1 .admitted)))
 
 pub openings-exactly : OpeningsExactly
 openings-exactly s = (
-  λ o. (bytesOf (o .0) ++ [], log-opens (o .0) (o .1), ap openingOf (written-said (o .0) [] (o .1)) ∙ said-opens (o .0) ∙ o .2),
+  λ o. (headerOf (o .0), log-opens (o .0) (o .1), ap openingOf (written-said version2 (o .0) [] (said-in-two (o .0) (o .1))) ∙ said-opens (o .0) ∙ o .2),
   λ l. (heapOf (l .0), heap-sound (l .0) (l .1 .admitted) .fits, l .2),
 )

@@ -18,11 +18,11 @@ use Rattle.cells.specs.Sets.{noCells, memberOf, Sub}
 use Rattle.cells.proofs.Bools.{split, not-both}
 use Rattle.cells.proofs.Subsets.{sub-empty}
 use Rattle.memory.specs.Memories.{maxCells, maxMutators, atCell}
-use Rattle.header.specs.Header.{cellsSaid, mutatorsSaid, cellFields, occupiedAt, fieldAt, rootsRead, usedAmong, admittedOf, fieldIn, fieldsOf, rootsIn, rootsOf, readHeap, heapOf, unopened, openOf}
+use Rattle.header.specs.Header.{versionSaid, cellsSaid, mutatorsSaid, cellFields, occupiedAt, fieldAt, rootsRead, usedAmong, admittedOf, fieldIn, fieldsOf, rootsIn, rootsOf, readHeap, heapOf, unopened, openOf}
 use Rattle.header.specs.Admitted.{Admitted, Sound}
-use Rattle.header.specs.Statements.{OpenedWhere, RefusedElse, OpenedOnly, Said, HeapSaid, HeapSound}
+use Rattle.header.specs.Statements.{OpenedWhere, RefusedElse, OpenedOnly, NarrowRefused, Said, HeapSaid, HeapSound}
 use Rattle.header.proofs.Used.{in-used, used-in, used-below}
-use Rattle.header.proofs.Agrees.{Names, CellFits, is-free, is-occupied, HeapFits, heap-fits, tests, admitted-clauses, clauses-admitted}
+use Rattle.header.proofs.Agrees.{most-cells, Names, CellFits, is-free, is-occupied, HeapFits, heap-fits, tests, admitted-clauses, clauses-admitted}
 use Rattle.header.proofs.Opens.{open-admitted, open-refused, open-yes}
 
 pub opened-where : OpenedWhere
@@ -74,7 +74,7 @@ module _ (log : List ℕ) (a : Admitted log) where
 
   field-read : (f i : ℕ) → getD (fieldsOf log N f) i 0 ≡ fieldIn log N f i
   unfolding fieldsOf
-  field-read f i = read (fieldIn log N f) maxCells i (λ l. field-out f i (omega (arith, a .few-cells)))
+  field-read f i = read (fieldIn log N f) maxCells i (λ l. field-out f i (omega (arith, a .few-cells, most-cells (versionSaid log))))
 
   roots-read : (k : ℕ) → getD (rootsOf log N M) k 0 ≡ rootsIn log N M k
   unfolding rootsOf
@@ -111,7 +111,7 @@ module _ (log : List ℕ) (a : Admitted log) where
       go (suc (suc f)) b (is-free z x y) = absurd (omega arith)
       go f b (is-occupied z x y) =
           let e : i + 1 - 1 ≡ i = omega arith in
-          absurd (not-both (used-in log N (i + 1) (omega (arith, a .few-cells)) (omega arith) (omega arith) (ap (occupiedAt log) e ∙ z)) m)
+          absurd (not-both (used-in log N (i + 1) (omega (arith, a .few-cells, most-cells (versionSaid log))) (omega arith) (omega arith) (ap (occupiedAt log) e ∙ z)) m)
 
   roots-sub : (k : ℕ) → Dec (k < M) → Sub (rootsIn log N M k) U
   roots-sub k (yes l) = rw (roots-in k l) (h .roots k l)
@@ -154,7 +154,7 @@ module _ (log : List ℕ) (a : Admitted log) where
       record {
         fits =
             record {
-              cells = (a .some-cells, a .few-cells);
+              cells = (a .some-cells, omega (arith, a .few-cells, most-cells (versionSaid log)));
               some = omega (arith, a .some-mutators);
               most = omega (arith, a .few-mutators);
               used = used-below log N;
@@ -174,7 +174,7 @@ module _ (log : List ℕ) (a : Admitted log) where
       record {
         cells = refl;
         processes = refl;
-        used = λ c. (λ p. let q = in-used log N c p in ((q .some, q .within), q .said), λ o. used-in log N c (omega (arith, a .few-cells)) (o .0 .0) (o .0 .1) (o .1));
+        used = λ c. (λ p. let q = in-used log N c p in ((q .some, q .within), q .said), λ o. used-in log N c (omega (arith, a .few-cells, most-cells (versionSaid log))) (o .0 .0) (o .0 .1) (o .1));
         field0 = λ c i. field-read 0 (c - 1) ∙ field-in 0 (c - 1) (omega (arith, i .0, i .1));
         field1 = λ c i. field-read 1 (c - 1) ∙ field-in 1 (c - 1) (omega (arith, i .0, i .1));
         roots = λ k l. roots-read k ∙ roots-in k l;
@@ -185,3 +185,6 @@ heap-said = said
 
 pub heap-sound : HeapSound
 heap-sound = sound
+
+pub narrow-refused : NarrowRefused
+narrow-refused log v h a = omega (arith, rw v at (a .few-cells))

@@ -4,5 +4,6 @@ pub mod Opens
 pub mod Heaps
 pub mod Same
 pub mod Littles
+pub mod Sizes
 pub mod Written
 pub mod Exacts

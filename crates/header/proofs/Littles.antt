@@ -1,7 +1,7 @@
 -- Numbers written as bytes, the lowest first, and lists written one after the other: what is read of them again.
 -- Assumes nothing.
 --     little-read                   a number that fits its bytes
---     pair-little, word-little      the numbers of two bytes and of a root set are read so
+--     pair-little, quad-little, wide-little      the numbers of two, four and eight bytes are read so
 --     length-little, -turns         how long they are
 --     turn-at, turn-past            what stands at a place of lists of one length, and past them
 --     bytes-join, -each, -little, -turns   each is a byte
@@ -13,15 +13,10 @@ use native.Mathlib.Nat.{mul-suc, pow-suc, div-lt-iff-lt-mul}
 use native.Mathlib.Omega.{arith}
 use lib.ListN.{length, getD, length-append, List·getD-append}
 use lib.Seq.{getD-append-add}
-use Rattle.header.specs.Bytes.{perByte, byteAt, pairAt, wordAt}
-use Rattle.header.specs.Header.{rootsSize}
+use Rattle.header.specs.Bytes.{perByte, byteAt, wordSize, wideSize, pairAt, quadOf, littleAt}
 use Rattle.header.specs.Written.{littleOf, inTurn, Bytes, versionSize}
 
 -- ---- a number of w bytes, from the place on
-abbrev pub littleAt : ℕ → List ℕ → ℕ → ℕ
-littleAt zero log at = 0
-littleAt (suc w) log at = byteAt log at + perByte * littleAt w log (at + 1)
-
 pub little-read : (w v at : ℕ) (log : List ℕ) → v < perByte ^ w → ((j : ℕ) → j < w → byteAt log (at + j) ≡ getD (littleOf w v) j 0) → littleAt w log at ≡ v
 little-read zero v at log b e = omega arith
 little-read (suc w) v at log b e =
@@ -37,12 +32,22 @@ pub pair-little : (log : List ℕ) (at : ℕ) → pairAt log at ≡ littleAt ver
 unfolding pairAt
 pair-little log at = omega arith
 
-pub word-little : (log : List ℕ) (at : ℕ) → wordAt log at ≡ littleAt rootsSize log at
-unfolding wordAt
-word-little log at =
+pub quad-little : (log : List ℕ) (at : ℕ) → quadOf (byteAt log at) (byteAt log (at + 1)) (byteAt log (at + 2)) (byteAt log (at + 3)) ≡ littleAt wordSize log at
+quad-little log at =
     let two : at + 1 + 1 ≡ at + 2 = omega arith in
     let three : at + 2 + 1 ≡ at + 3 = omega arith in
     rw (two, three) (omega arith)
+
+pub wide-little : (log : List ℕ) (at : ℕ)
+    → quadOf (byteAt log at) (byteAt log (at + 1)) (byteAt log (at + 2)) (byteAt log (at + 3)) + 2 ^ 32 * quadOf (byteAt log (at + 4)) (byteAt log (at + 5)) (byteAt log (at + 6)) (byteAt log (at + 7)) ≡ littleAt wideSize log at
+wide-little log at =
+    let two : at + 1 + 1 ≡ at + 2 = omega arith in
+    let three : at + 2 + 1 ≡ at + 3 = omega arith in
+    let four : at + 3 + 1 ≡ at + 4 = omega arith in
+    let five : at + 4 + 1 ≡ at + 5 = omega arith in
+    let six : at + 5 + 1 ≡ at + 6 = omega arith in
+    let seven : at + 6 + 1 ≡ at + 7 = omega arith in
+    rw (two, three, four, five, six, seven) (omega arith)
 
 pub length-little : (w v : ℕ) → length (littleOf w v) ≡ w
 length-little zero v = refl

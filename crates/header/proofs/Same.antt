@@ -8,15 +8,16 @@ use mathlib.Core.List.{List, [], _∷_, _++_}
 use Prim.Native.Nat.{ℕ, zero, suc, _+_, _*_, _≤_, _<_}
 use native.Mathlib.Decide.{decLt}
 use native.Mathlib.Omega.{arith}
-use lib.Dec.{ltb}
+use lib.Dec.{eqb, ltb}
 use lib.ListN.{length, take}
 use lib.Seq.{getD-take, length-take-le}
 use borrow.Author.Tests.{le-ltb, le-leb}
 use Rattle.base.specs.Pick.{pick, listed}
 use Rattle.base.specs.Every.{_and_, every}
+use Rattle.base.proofs.Picking.{pick-ind}
 use Rattle.memory.specs.Memories.{maxCells, maxMutators}
-use Rattle.header.specs.Bytes.{perByte, byteAt, pairAt, wordAt}
-use Rattle.header.specs.Header.{maxLog, versionPlace, cellsPlace, mutatorsPlace, heapPlace, cellsSaid, mutatorsSaid, cellFields, cellPlace, rootsPlace, sizeOf, occupiedAt, fieldAt, rootsRead, gainedOf, usedAmong, lettersOf, cellSaidAtOf, rootsFitOf, rootsAtOf, cellsSaidFitOf, allRootsFitOf, heapFitsOf, fieldIn, fieldsOf, rootsIn, rootsOf, readHeap, heapOf}
+use Rattle.header.specs.Bytes.{perByte, byteAt, wordSize, wideSize, pairAt, littleAt}
+use Rattle.header.specs.Header.{maxLog, versionPlace, version2, cellsPlace, mutatorsPlace, heapPlace, rootsSizeOf, versionSaid, cellsSaid, mutatorsSaid, cellFields, cellPlace, rootsPlace, rootsSize, sizeOf, occupiedAt, fieldAt, rootsRead, gainedOf, usedAmong, lettersOf, cellSaidAtOf, rootsFitOf, rootsAtOf, cellsSaidFitOf, allRootsFitOf, heapFitsOf, fieldIn, fieldsOf, rootsIn, rootsOf, readHeap, heapOf}
 use Rattle.header.specs.Admitted.{Admitted}
 use Rattle.header.specs.Statements.{SameHeader, HeaderDecides, CutInside}
 use Rattle.header.proofs.Agrees.{tests, tested, admitted-clauses, clauses-admitted}
@@ -42,17 +43,17 @@ size-least : (log : List ℕ) → heapPlace ≤ sizeOf log
 unfolding rootsPlace cellPlace
 size-least log = omega arith
 
-cell-within : (n m i f : ℕ) → i < n → f < cellFields → cellPlace i + 1 + f < rootsPlace n m
+cell-within : (w n m i f : ℕ) → i < n → f < cellFields → cellPlace i + 1 + f < rootsPlace w n m
 unfolding rootsPlace cellPlace
-cell-within n m i f h b = omega arith
+cell-within w n m i f h b = omega arith
 
-occupied-within : (n m i : ℕ) → i < n → cellPlace i < rootsPlace n m
+occupied-within : (w n m i : ℕ) → i < n → cellPlace i < rootsPlace w n m
 unfolding rootsPlace cellPlace
-occupied-within n m i h = omega arith
+occupied-within w n m i h = omega arith
 
-roots-within : (n m k : ℕ) → k < m → rootsPlace n k + 3 < rootsPlace n m
+roots-within : (v n m k : ℕ) → k < m → rootsPlace (rootsSizeOf v) n k + rootsSizeOf v ≤ rootsPlace (rootsSizeOf v) n m
 unfolding rootsPlace cellPlace
-roots-within n m k h = omega arith
+roots-within v n m k h = pick-ind (λ (w : ℕ). cellPlace n + w * k + w ≤ cellPlace n + w * m) (eqb v version2) (λ _. omega arith) (λ _. omega arith)
 
 module _ (log other : List ℕ) (s : SameHeader log other) where
   abbrev N : ℕ
@@ -68,22 +69,24 @@ module _ (log other : List ℕ) (s : SameHeader log other) where
   unfolding pairAt
   pair i h = ap₂ (λ (x y : ℕ). x + perByte * y) (at i (omega arith)) (at (i + 1) h)
 
-  word : (i : ℕ) → i + 3 < sizeOf log → wordAt other i ≡ wordAt log i
-  unfolding wordAt
-  word i h =
-      rw (s .bytes i (omega arith), s .bytes (i + 1) (omega arith), s .bytes (i + 2) (omega arith), s .bytes (i + 3) h) refl
+  little : (w i : ℕ) → i + w ≤ sizeOf log → littleAt w other i ≡ littleAt w log i
+  little zero i h = refl
+  little (suc w) i h = ap₂ (λ (x y : ℕ). x + perByte * y) (s .bytes i (omega arith)) (little w (i + 1) (omega arith))
+
+  same-roots : rootsSize other ≡ rootsSize log
+  same-roots = ap rootsSizeOf (pair versionPlace (omega arith))
 
   same-size : sizeOf other ≡ sizeOf log
-  same-size = ap₂ rootsPlace (at cellsPlace (omega arith)) (at mutatorsPlace (omega arith))
+  same-size = rw (same-roots, at cellsPlace (omega arith), at mutatorsPlace (omega arith)) refl
 
   occupied : (i : ℕ) → i < N → occupiedAt other i ≡ occupiedAt log i
-  occupied i h = s .bytes (cellPlace i) (occupied-within N M i h)
+  occupied i h = s .bytes (cellPlace i) (occupied-within (rootsSize log) N M i h)
 
   field : (i f : ℕ) → i < N → f < cellFields → fieldAt other i f ≡ fieldAt log i f
-  field i f h b = s .bytes (cellPlace i + 1 + f) (cell-within N M i f h b)
+  field i f h b = s .bytes (cellPlace i + 1 + f) (cell-within (rootsSize log) N M i f h b)
 
   roots : (k : ℕ) → k < M → rootsRead other N k ≡ rootsRead log N k
-  roots k h = word (rootsPlace N k) (roots-within N M k h)
+  roots k h = rw same-roots (little (rootsSize log) (rootsPlace (rootsSize log) N k) (roots-within (versionSaid log) N M k h))
 
   used : (n : ℕ) → n ≤ N → usedAmong other n ≡ usedAmong log n
   used zero h = refl
@@ -121,7 +124,7 @@ module _ (log other : List ℕ) (s : SameHeader log other) where
       (record {
         long = le-leb (length other) maxLog (s .not-long);
         letters = letters ∙ t .letters;
-        counts = rw (at cellsPlace (omega arith), at mutatorsPlace (omega arith)) (t .counts);
+        counts = rw (pair versionPlace (omega arith), at cellsPlace (omega arith), at mutatorsPlace (omega arith)) (t .counts);
         short = le-leb (sizeOf other) (length other) (rw same-size (s .not-short));
         heap = rw (at cellsPlace (omega arith), at mutatorsPlace (omega arith), used N (omega arith)) (heap-fits (usedAmong log N) ∙ t .heap);
       }))
@@ -131,13 +134,17 @@ header-decides log other a s = record { size = same-size log other s; admitted =
 
 -- a cut log has the bytes before its end, so where N and M are among them it has the same size
 pub cut-inside : CutInside
+unfolding pairAt
 cut-inside log j a h b = go (decLt j heapPlace)
   where
     cut : length (take j log) ≡ j
     cut = length-take-le j log (omega (arith, a .not-short))
 
+    cut-size : heapPlace ≤ j → sizeOf (take j log) ≡ sizeOf log
+    cut-size l = rw (getD-take j log versionPlace 0 (omega arith), getD-take j log (versionPlace + 1) 0 (omega arith), getD-take j log cellsPlace 0 (omega arith), getD-take j log mutatorsPlace 0 (omega arith)) refl
+
     go : Dec (j < heapPlace) → ⊥
     go (yes l) = omega (arith, b .not-short, size-least (take j log), cut)
     go (no n) =
-        let e : sizeOf (take j log) ≡ sizeOf log = ap₂ rootsPlace (getD-take j log cellsPlace 0 (omega arith)) (getD-take j log mutatorsPlace 0 (omega arith)) in
+        let e : sizeOf (take j log) ≡ sizeOf log = cut-size (omega arith) in
         omega (arith, b .not-short, cut, e)

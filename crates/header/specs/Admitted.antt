@@ -7,12 +7,11 @@ use mathlib.Core.Logic.{_⊎_}
 use Prim.Native.Nat.{ℕ, _+_, _-_, _≤_, _<_}
 use lib.ListN.{length, take}
 use Rattle.cells.specs.Sets.{noCells, memberOf, Member}
-use Rattle.memory.specs.Memories.{maxCells, maxMutators}
+use Rattle.memory.specs.Memories.{maxMutators}
 use Rattle.state.specs.declared.opening.Heap.{Heap}
 use Rattle.state.specs.Openings.{rootsAt}
 use Rattle.formed.specs.Fits.{HeapFits}
-use Rattle.header.specs.Bytes.{pairAt}
-use Rattle.header.specs.Header.{maxLog, letterM, letterG, letterT, versionPlace, theVersion, cellsSaid, mutatorsSaid, cellFields, sizeOf, occupiedAt, fieldAt, rootsRead}
+use Rattle.header.specs.Header.{maxLog, letterM, letterG, letterT, version1, version2, mostCellsOf, versionSaid, cellsSaid, mutatorsSaid, cellFields, sizeOf, occupiedAt, fieldAt, rootsRead}
 
 -- "Cells 1..N": cell c stands at c - 1
 abbrev pub CellSaid : List ℕ → ℕ → Type 0
@@ -31,9 +30,13 @@ OccupiedSaid log c = CellSaid log c × (saidOf log c ≡ 1)
 abbrev pub FreeSaid : List ℕ → ℕ → Type 0
 FreeSaid log c = CellSaid log c × (saidOf log c ≡ 0)
 
--- "per mutator a 32-bit root set, bit 0 for cell 1"
+-- "per mutator a 32-bit root set, bit 0 for cell 1"; "Version 2 logs carry root sets of 64 bits"
 abbrev pub rootSet : List ℕ → ℕ → ℕ
 rootSet log k = rootsRead log (cellsSaid log) k
+
+-- "a 16-bit version 1"; document 02's version 2
+abbrev pub IsVersion : ℕ → Type 0
+IsVersion v = (v ≡ version1) ⊎ (v ≡ version2)
 
 pub record Admitted (log : List ℕ) : Type 0 where
   -- "A log is at most 65,536 bytes, else stop 12."
@@ -41,10 +44,10 @@ pub record Admitted (log : List ℕ) : Type 0 where
   -- "Bytes 4D 47 54 ("MGT")"
   pub letters : take 3 log ≡ letterM ∷ letterG ∷ letterT ∷ []
   -- "a 16-bit version 1 (little-endian, as all here)"
-  pub version : pairAt log versionPlace ≡ theVersion
-  -- "N": "N from 1 to 32"
+  pub version : IsVersion (versionSaid log)
+  -- "N": "Raise N to 64"; "version 1 logs are still read, with N at most 32"
   pub some-cells : 0 < cellsSaid log
-  pub few-cells : cellsSaid log ≤ maxCells
+  pub few-cells : cellsSaid log ≤ mostCellsOf (versionSaid log)
   -- "M": "M from 1 to 4"
   pub some-mutators : 0 < mutatorsSaid log
   pub few-mutators : mutatorsSaid log ≤ maxMutators

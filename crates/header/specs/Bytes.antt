@@ -1,6 +1,6 @@
--- The bytes of a log, by their places from 0, and the numbers made of two and of four: "little-endian, as all here".
+-- The bytes of a log, by their places from 0, and the numbers made of several: "little-endian, as all here".
 -- Assumes nothing.
-use Prim.Native.Nat.{ℕ, _+_, _*_}
+use Prim.Native.Nat.{ℕ, zero, suc, _+_, _*_}
 use mathlib.Core.List.{List}
 use lib.ListN.{getD}
 
@@ -19,6 +19,18 @@ joinedOf low high = low + perByte * high
 unfoldable pub pairAt : List ℕ → ℕ → ℕ
 pairAt log at = joinedOf (byteAt log at) (byteAt log (at + 1))
 
--- 32 bits
-unfoldable pub wordAt : List ℕ → ℕ → ℕ
-wordAt log at = byteAt log at + perByte * (byteAt log (at + 1) + perByte * (byteAt log (at + 2) + perByte * byteAt log (at + 3)))
+-- 32 bits, of four bytes
+abbrev pub quadOf : ℕ → ℕ → ℕ → ℕ → ℕ
+quadOf a b c d = a + perByte * (b + perByte * (c + perByte * d))
+
+-- the bytes of 32 bits and of 64
+abbrev pub wordSize : ℕ
+wordSize = 4
+
+abbrev pub wideSize : ℕ
+wideSize = 8
+
+-- a number of w bytes, from the place on
+abbrev pub littleAt : ℕ → List ℕ → ℕ → ℕ
+littleAt zero log at = 0
+littleAt (suc w) log at = byteAt log at + perByte * littleAt w log (at + 1)

@@ -12,14 +12,14 @@ use Rattle.cells.specs.Sets.{noCells, isNone, memberOf, addOf, minusOf, belowOf
 use Rattle.memory.specs.Memories.{maxCells, maxMutators}
 use Rattle.state.specs.declared.opening.Heap.{Heap}
 use Rattle.header.specs.declared.Opened.{Opened}
-use Rattle.header.specs.Bytes.{byteAt, pairAt, wordAt}
+use Rattle.header.specs.Bytes.{byteAt, wordSize, wideSize, pairAt, littleAt}
 
 -- "A log is at most 65,536 bytes"
 abbrev pub maxLog : ℕ
 maxLog = 65536
 
--- ---- where things stand: "Bytes 4D 47 54 ("MGT"), a 16-bit version 1 .., N, M; per cell: occupied (0 or 1), field
--- 0, field 1; per mutator a 32-bit root set"
+-- ---- where things stand: "Bytes 4D 47 54 ("MGT"), a 16-bit version .., N, M; per cell: occupied (0 or 1), field 0,
+-- field 1; per mutator a .. root set"
 abbrev pub letterM : ℕ
 letterM = 77
 
@@ -32,8 +32,12 @@ letterT = 84
 abbrev pub versionPlace : ℕ
 versionPlace = 3
 
-abbrev pub theVersion : ℕ
-theVersion = 1
+-- document 01's, and document 02's
+abbrev pub version1 : ℕ
+version1 = 1
+
+abbrev pub version2 : ℕ
+version2 = 2
 
 abbrev pub cellsPlace : ℕ
 cellsPlace = 5
@@ -51,26 +55,41 @@ cellFields = 2
 abbrev pub cellSize : ℕ
 cellSize = cellFields + 1
 
-abbrev pub rootsSize : ℕ
-rootsSize = 4
+-- ---- what a version has
+-- "a 32-bit root set"; "Version 2 logs carry root sets of 64 bits"
+abbrev pub rootsSizeOf : ℕ → ℕ
+rootsSizeOf v = pick (eqb v version2) wideSize wordSize
 
--- N and M
+-- "Raise N to 64", "version 1 logs are still read, with N at most 32": as many as a root set has bits
+abbrev pub bitsPerByte : ℕ
+bitsPerByte = 8
+
+abbrev pub mostCellsOf : ℕ → ℕ
+mostCellsOf v = bitsPerByte * rootsSizeOf v
+
+-- ---- the version, N and M
+abbrev pub versionSaid : List ℕ → ℕ
+versionSaid log = pairAt log versionPlace
+
 abbrev pub cellsSaid : List ℕ → ℕ
 cellsSaid log = byteAt log cellsPlace
 
 abbrev pub mutatorsSaid : List ℕ → ℕ
 mutatorsSaid log = byteAt log mutatorsPlace
 
--- cell i + 1, and the roots of mutator k + 1 after n cells
+-- cell i + 1, and the roots of mutator k + 1, of w bytes each, after n cells
 unfoldable pub cellPlace : ℕ → ℕ
 cellPlace i = heapPlace + cellSize * i
 
-unfoldable pub rootsPlace : ℕ → ℕ → ℕ
-rootsPlace n k = cellPlace n + rootsSize * k
+unfoldable pub rootsPlace : ℕ → ℕ → ℕ → ℕ
+rootsPlace w n k = cellPlace n + w * k
 
--- the bytes of the header
+-- the bytes of a root set, and of the header
+abbrev pub rootsSize : List ℕ → ℕ
+rootsSize log = rootsSizeOf (versionSaid log)
+
 abbrev pub sizeOf : List ℕ → ℕ
-sizeOf log = rootsPlace (cellsSaid log) (mutatorsSaid log)
+sizeOf log = rootsPlace (rootsSize log) (cellsSaid log) (mutatorsSaid log)
 
 -- ---- what is read of a cell and of a mutator
 abbrev pub occupiedAt : List ℕ → ℕ → ℕ
@@ -80,7 +99,7 @@ abbrev pub fieldAt : List ℕ → ℕ → ℕ → ℕ
 fieldAt log i f = byteAt log (cellPlace i + 1 + f)
 
 abbrev pub rootsRead : List ℕ → ℕ → ℕ → ℕ
-rootsRead log n k = wordAt log (rootsPlace n k)
+rootsRead log n k = littleAt (rootsSize log) log (rootsPlace (rootsSize log) n k)
 
 -- the occupied ones of the first n cells
 abbrev pub gainedOf : ℕ → ℕ → ℕ → ℕ
@@ -91,14 +110,17 @@ usedAmong log zero = noCells
 usedAmong log (suc i) = gainedOf (usedAmong log i) (occupiedAt log i) (i + 1)
 
 -- ---- the tests
--- "Bytes 4D 47 54", "a 16-bit version 1"
+-- "Bytes 4D 47 54", "a 16-bit version": 1 or 2
+unfoldable pub isVersionOf : ℕ → Bool
+isVersionOf v = pick (eqb v version1) true (eqb v version2)
+
 unfoldable pub lettersOf : List ℕ → Bool
 lettersOf log =
-    eqb (byteAt log 0) letterM and eqb (byteAt log 1) letterG and eqb (byteAt log 2) letterT and eqb (pairAt log versionPlace) theVersion
+    eqb (byteAt log 0) letterM and eqb (byteAt log 1) letterG and eqb (byteAt log 2) letterT and isVersionOf (versionSaid log)
 
--- "N from 1 to 32"; "M from 1 to 4"
-unfoldable pub countsOf : ℕ → ℕ → Bool
-countsOf n m = leb 1 n and leb n maxCells and leb 1 m and leb m maxMutators
+-- N from 1 to the most that the version has; "M from 1 to 4"
+unfoldable pub countsOf : ℕ → ℕ → ℕ → Bool
+countsOf most n m = leb 1 n and leb n most and leb 1 m and leb m maxMutators
 
 -- "is 0 or names an occupied cell"
 unfoldable pub namesOf : ℕ → ℕ → Bool
@@ -133,7 +155,7 @@ heapFitsOf log n m used = cellsSaidFitOf log n used and allRootsFitOf log n m us
 -- "Otherwise, or if short: stop 12."
 unfoldable pub admittedOf : List ℕ → Bool
 admittedOf log =
-    leb (length log) maxLog and lettersOf log and countsOf (cellsSaid log) (mutatorsSaid log) and leb (sizeOf log) (length log)
+    leb (length log) maxLog and lettersOf log and countsOf (mostCellsOf (versionSaid log)) (cellsSaid log) (mutatorsSaid log) and leb (sizeOf log) (length log)
     and heapFitsOf log (cellsSaid log) (mutatorsSaid log) (usedAmong log (cellsSaid log))
 
 -- ---- the heap

@@ -8,7 +8,7 @@ use lib.ListN.{length, getD, take}
 use Rattle.cells.specs.Sets.{Member}
 use Rattle.state.specs.declared.opening.Heap.{Heap}
 use Rattle.header.specs.Bytes.{byteAt}
-use Rattle.header.specs.Header.{maxLog, cellsSaid, mutatorsSaid, sizeOf, admittedOf, heapOf, opened, unopened, openOf}
+use Rattle.header.specs.Header.{maxLog, version1, versionSaid, cellsSaid, mutatorsSaid, sizeOf, admittedOf, heapOf, opened, unopened, openOf}
 use Rattle.header.specs.Admitted.{CellSaid, OccupiedSaid, fieldSaid, rootSet, Admitted, Sound}
 
 -- the tests hold exactly if every clause does
@@ -24,6 +24,10 @@ RefusedElse = (log : List ℕ) → (Admitted log → ⊥) → openOf log ≡ uno
 
 abbrev pub OpenedOnly : Type 0
 OpenedOnly = (log : List ℕ) → openOf log .no ≡ 0 → Admitted log
+
+-- "version 1 logs are still read, with N at most 32"
+abbrev pub NarrowRefused : Type 0
+NarrowRefused = (log : List ℕ) → versionSaid log ≡ version1 → 32 < cellsSaid log → Admitted log → ⊥
 
 -- the heap is the one that the header says
 pub record Said (log : List ℕ) (h : Heap) : Type 0 where

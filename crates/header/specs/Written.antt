@@ -1,6 +1,6 @@
--- The header of a log as bytes, written from a heap: "Bytes 4D 47 54 ("MGT"), a 16-bit version 1 (little-endian, as
--- all here), N, M; per cell: occupied (0 or 1), field 0, field 1; per mutator a 32-bit root set, bit 0 for cell 1."
--- And what is proved of them, each statement by its name. Assumes nothing.
+-- The header of a log as bytes, written from a heap in a version: "Bytes 4D 47 54 ("MGT"), a 16-bit version 1
+-- (little-endian, as all here), N, M; per cell: occupied (0 or 1), field 0, field 1; per mutator a 32-bit root set, bit
+-- 0 for cell 1." "Version 2 logs carry root sets of 64 bits". And what is proved of them, each statement by its name. Assumes nothing.
 use mathlib.Core.Path.{_≡_}
 use mathlib.Core.List.{List, [], _∷_, _++_}
 use mathlib.Core.Logic.{_↔_}
@@ -15,8 +15,8 @@ use Rattle.state.specs.declared.opening.Heap.{Heap}
 use Rattle.state.specs.Openings.{rootsAt, openingOf}
 use Rattle.formed.specs.Fits.{HeapFits}
 use Rattle.header.specs.Bytes.{perByte, byteAt}
-use Rattle.header.specs.Header.{maxLog, letterM, letterG, letterT, theVersion, rootsSize, sizeOf, heapOf}
-use Rattle.header.specs.Admitted.{Admitted, Sound}
+use Rattle.header.specs.Header.{maxLog, letterM, letterG, letterT, version2, rootsSizeOf, mostCellsOf, sizeOf, heapOf}
+use Rattle.header.specs.Admitted.{IsVersion, Admitted, Sound}
 
 -- ---- bytes
 -- "little-endian, as all here": a number in w bytes, the lowest first
@@ -46,29 +46,39 @@ heapMutators h = h .processes - 1
 abbrev pub cellBytes : Heap → ℕ → List ℕ
 cellBytes h i = pick (memberOf (h .used) (suc i)) 1 0 ∷ getD (h .field0) i 0 ∷ getD (h .field1) i 0 ∷ []
 
--- "a 32-bit root set, bit 0 for cell 1": the mutator k + 1
-abbrev pub rootsBytes : Heap → ℕ → List ℕ
-rootsBytes h k = littleOf rootsSize (rootsAt h k)
+-- "a .. root set, bit 0 for cell 1": the mutator k + 1
+abbrev pub rootsBytes : ℕ → Heap → ℕ → List ℕ
+rootsBytes v h k = littleOf (rootsSizeOf v) (rootsAt h k)
 
--- ""MGT", a 16-bit version 1 .., N, M"
-abbrev pub frontBytes : Heap → List ℕ
-frontBytes h = (letterM ∷ letterG ∷ letterT ∷ []) ++ (littleOf versionSize theVersion ++ (h .cells ∷ heapMutators h ∷ []))
+-- ""MGT", a 16-bit version .., N, M"
+abbrev pub frontBytes : ℕ → Heap → List ℕ
+frontBytes v h = (letterM ∷ letterG ∷ letterT ∷ []) ++ (littleOf versionSize v ++ (h .cells ∷ heapMutators h ∷ []))
 
 -- "per cell: ..; per mutator .."
-unfoldable pub bytesOf : Heap → List ℕ
-bytesOf h = frontBytes h ++ (inTurn (h .cells) (cellBytes h) ++ inTurn (heapMutators h) (rootsBytes h))
+unfoldable pub bytesOf : ℕ → Heap → List ℕ
+bytesOf v h = frontBytes v h ++ (inTurn (h .cells) (cellBytes h) ++ inTurn (heapMutators h) (rootsBytes v h))
+
+-- the heap can be said in version v
+pub record SaidIn (v : ℕ) (h : Heap) : Type 0 where
+  pub version : IsVersion v
+  pub fits : HeapFits h
+  pub few-cells : h .cells ≤ mostCellsOf v
 
 -- ---- what is proved of it
+-- every heap that keeps the header's rules can be said in version 2
+abbrev pub SaidInTwo : Type 0
+SaidInTwo = (h : Heap) → HeapFits h → SaidIn version2 h
+
 -- each of them is a byte
 abbrev pub WrittenBytes : Type 0
-WrittenBytes = (h : Heap) → HeapFits h → Bytes (bytesOf h)
+WrittenBytes = (v : ℕ) (h : Heap) → SaidIn v h → Bytes (bytesOf v h)
 
 -- a log that begins with them is admitted, with any records after them, and its header is these bytes
 abbrev pub WrittenAdmitted : Type 0
-WrittenAdmitted = (h : Heap) (records : List ℕ) → HeapFits h → length (bytesOf h ++ records) ≤ maxLog → Admitted (bytesOf h ++ records)
+WrittenAdmitted = (v : ℕ) (h : Heap) (records : List ℕ) → SaidIn v h → length (bytesOf v h ++ records) ≤ maxLog → Admitted (bytesOf v h ++ records)
 
 abbrev pub WrittenSize : Type 0
-WrittenSize = (h : Heap) (records : List ℕ) → sizeOf (bytesOf h ++ records) ≡ length (bytesOf h)
+WrittenSize = (v : ℕ) (h : Heap) (records : List ℕ) → IsVersion v → sizeOf (bytesOf v h ++ records) ≡ length (bytesOf v h)
 
 -- the heap without what no byte says: roots above M
 abbrev pub rootsSaid : Heap → ℕ → ℕ
@@ -80,14 +90,14 @@ asSaid h =
 
 -- read again they give that heap; an opening needs no more of it
 abbrev pub WrittenSaid : Type 0
-WrittenSaid = (h : Heap) (records : List ℕ) → HeapFits h → heapOf (bytesOf h ++ records) ≡ asSaid h
+WrittenSaid = (v : ℕ) (h : Heap) (records : List ℕ) → SaidIn v h → heapOf (bytesOf v h ++ records) ≡ asSaid h
 
 abbrev pub SaidOpens : Type 0
 SaidOpens = (h : Heap) → openingOf (asSaid h) ≡ openingOf h
 
 -- and where no roots stand above M, it is the heap itself
 abbrev pub WrittenRead : Type 0
-WrittenRead = (h : Heap) (records : List ℕ) → Sound h → heapOf (bytesOf h ++ records) ≡ h
+WrittenRead = (v : ℕ) (h : Heap) (records : List ℕ) → SaidIn v h → Sound h → heapOf (bytesOf v h ++ records) ≡ h
 
 -- ---- "any opening heap the header rules admit", both ways
 -- an admitted log of bytes

@@ -1,12 +1,14 @@
-// The bytes of a log, and the numbers made of two and of four: "little-endian, as all here".
+// The bytes of a log, and the numbers made of two, four and eight: "little-endian, as all here".
 ghost use mathlib.Core.Path.{_≡_};
-ghost use Rattle.header.specs.Bytes.{byteAt, joinedOf, pairAt, wordAt};
+ghost use Rattle.header.specs.Bytes.{byteAt, wordSize, wideSize, joinedOf, pairAt, quadOf, littleAt};
 
-// How much more a byte counts than the one before it.
+// How much more a byte, or four, count than those before.
 struct Weight;
 
 impl Weight {
     const PER_BYTE: u16 = 256;
+
+    const PER_WORD: u64 = 1 << 32;
 }
 
 // The byte at a place, and 0 past the end of the log.
@@ -36,15 +38,43 @@ pub fn pair(log: &[u8], at: usize) -> u16
     joined(byte(log, at), byte(log, at + 1))
 }
 
-// 32 bits.
-pub fn word(log: &[u8], at: u32) -> u64
-    ensures { λ r. ⌜ r ≡ wordAt (now (log .entry)) at ⌝ }
+// 32 bits of four bytes, the lowest first.
+fn quad(a: u8, b: u8, c: u8, d: u8) -> u64
+    ensures { λ r. ⌜ r ≡ quadOf a b c d ⌝ }
 {
-    let i = at as usize;
-    let a = byte(log, i);
-    let b = byte(log, i + 1);
-    let c = byte(log, i + 2);
-    let d = byte(log, i + 3);
     let per = Weight::PER_BYTE as u64;
     (a as u64) + per * ((b as u64) + per * ((c as u64) + per * (d as u64)))
+}
+
+// 32 bits.
+pub fn word(log: &[u8], at: u32) -> u64
+    ensures { λ r. ⌜ r ≡ littleAt wordSize (now (log .entry)) at ⌝ }
+{
+    let i = at as usize;
+    quad(
+        byte(log, i),
+        byte(log, i + 1),
+        byte(log, i + 2),
+        byte(log, i + 3),
+    )
+}
+
+// 64 bits.
+pub fn wide(log: &[u8], at: u32) -> u64
+    ensures { λ r. ⌜ r ≡ littleAt wideSize (now (log .entry)) at ⌝ }
+{
+    let i = at as usize;
+    let low = quad(
+        byte(log, i),
+        byte(log, i + 1),
+        byte(log, i + 2),
+        byte(log, i + 3),
+    );
+    let high = quad(
+        byte(log, i + 4),
+        byte(log, i + 5),
+        byte(log, i + 6),
+        byte(log, i + 7),
+    );
+    low + Weight::PER_WORD * high
 }

@@ -1,6 +1,8 @@
 // The heap that a header gives: occupied cells, fields and roots.
 use super::Layout;
+use super::Version;
 use super::bytes::byte;
+use super::bytes::wide;
 use super::bytes::word;
 use memory::Memory;
 use state::State;
@@ -17,11 +19,11 @@ fn cell_place(i: u8) -> u32
     Layout::HEAP + Layout::CELL_SIZE * (i as u32)
 }
 
-// Where the roots of mutator k + 1 stand, after n cells.
-pub fn roots_place(n: u8, k: u8) -> u32
-    ensures { λ r. ⌜ r ≡ rootsPlace n k ⌝ }
+// Where the roots of mutator k + 1 stand, of so many bytes each, after n cells.
+pub fn roots_place(size: u8, n: u8, k: u8) -> u32
+    ensures { λ r. ⌜ r ≡ rootsPlace size n k ⌝ }
 {
-    Layout::HEAP + Layout::CELL_SIZE * (n as u32) + Layout::ROOTS_SIZE * (k as u32)
+    Layout::HEAP + Layout::CELL_SIZE * (n as u32) + (size as u32) * (k as u32)
 }
 
 // What the log says of the cell i + 1: occupied or not.
@@ -44,7 +46,12 @@ pub fn field(log: &[u8], i: u8, f: u8) -> u8
 pub fn roots_at(log: &[u8], n: u8, k: u8) -> u64
     ensures { λ r. ⌜ r ≡ rootsRead (now (log .entry)) n k ⌝ }
 {
-    word(log, roots_place(n, k))
+    let size = super::roots_size(log);
+    let at = roots_place(size, n, k);
+    if size == Version::WIDE {
+        return wide(log, at);
+    }
+    word(log, at)
 }
 
 // The set with c too, where c is occupied.

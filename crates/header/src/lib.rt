@@ -5,11 +5,12 @@ mod tests;
 
 use base::Stop;
 use bytes::byte;
+use bytes::pair;
 use memory::Memory;
 use state::State;
 use state::opening::Heap;
 ghost use mathlib.Core.Path.{_≡_};
-ghost use Rattle.header.specs.Header.{unopened, sizeOf, openOf};
+ghost use Rattle.header.specs.Header.{unopened, rootsSize, sizeOf, openOf};
 
 // What opening a log gives: 0 and its heap, or 12 and the empty heap.
 pub struct Opened {
@@ -28,8 +29,6 @@ pub struct Layout;
 impl Layout {
     pub const VERSION: usize = 3;
 
-    pub const THE_VERSION: u16 = 1;
-
     pub const CELLS: usize = 5;
 
     pub const MUTATORS: usize = 6;
@@ -37,8 +36,24 @@ impl Layout {
     pub const HEAP: u32 = 7;
 
     pub const CELL_SIZE: u32 = 3;
+}
 
-    pub const ROOTS_SIZE: u32 = 4;
+// Document 01's version, and document 02's.
+pub struct Version;
+
+impl Version {
+    pub const ONE: u16 = 1;
+
+    pub const TWO: u16 = 2;
+}
+
+// What a version has: "a 32-bit root set"; "Version 2 logs carry root sets of 64 bits". N is at most the bits of one.
+impl Version {
+    const WORD: u8 = 4;
+
+    const WIDE: u8 = 8;
+
+    const BITS_PER_BYTE: u32 = 8;
 }
 
 // "stop 12"
@@ -61,11 +76,23 @@ fn closed() -> Opened
     }
 }
 
+// The bytes of a root set.
+fn roots_size(log: &[u8]) -> u8
+    ensures { λ r. ⌜ r ≡ rootsSize (now (log .entry)) ⌝ }
+{
+    if pair(log, Layout::VERSION) == Version::TWO {
+        return Version::WIDE;
+    }
+    Version::WORD
+}
+
 // The bytes of a log's header.
 pub fn size(log: &[u8]) -> u32
     ensures { λ r. ⌜ r ≡ sizeOf (now (log .entry)) ⌝ }
 {
-    heap::roots_place(byte(log, Layout::CELLS), byte(log, Layout::MUTATORS))
+    let n = byte(log, Layout::CELLS);
+    let m = byte(log, Layout::MUTATORS);
+    heap::roots_place(roots_size(log), n, m)
 }
 
 // The heap of a log's header, where every clause of its rule holds.

@@ -1,15 +1,26 @@
 // The clauses of the header's rule, each a test.
 use super::Layout;
 use super::Opened;
+use super::Version;
 use super::bytes::byte;
 use super::bytes::pair;
 use super::heap;
-use memory::Memory;
+use super::roots_size;
 use state::State;
 ghost use mathlib.Core.Path.{_≡_};
-ghost use Rattle.header.specs.Header.{lettersOf, countsOf, namesOf, cellSaidFitsOf, cellSaidAtOf, rootsFitOf, cellsSaidFitOf, allRootsFitOf, heapFitsOf, admittedOf};
+ghost use Rattle.header.specs.Header.{isVersionOf, lettersOf, countsOf, namesOf, cellSaidFitsOf, cellSaidAtOf, rootsFitOf, cellsSaidFitOf, allRootsFitOf, heapFitsOf, admittedOf};
 
-// "Bytes 4D 47 54 ("MGT"), a 16-bit version 1"
+// Version 1 or 2.
+fn is_version(v: u16) -> bool
+    ensures { λ r. ⌜ r ≡ isVersionOf v ⌝ }
+{
+    if v == Version::ONE {
+        return true;
+    }
+    v == Version::TWO
+}
+
+// "Bytes 4D 47 54 ("MGT"), a 16-bit version"
 fn letters(log: &[u8]) -> bool
     ensures { λ r. ⌜ r ≡ lettersOf (now (log .entry)) ⌝ }
 {
@@ -22,17 +33,17 @@ fn letters(log: &[u8]) -> bool
     if byte(log, 2) != b'T' {
         return false;
     }
-    pair(log, Layout::VERSION) == Layout::THE_VERSION
+    is_version(pair(log, Layout::VERSION))
 }
 
-// "N from 1 to 32", "M from 1 to 4"
-fn counts(n: u8, m: u8) -> bool
-    ensures { λ r. ⌜ r ≡ countsOf n m ⌝ }
+// N from 1 to the most that the version has, "M from 1 to 4".
+fn counts(most: u32, n: u8, m: u8) -> bool
+    ensures { λ r. ⌜ r ≡ countsOf most n m ⌝ }
 {
     if n < 1 {
         return false;
     }
-    if Memory::CELLS < n as usize {
+    if most < n as u32 {
         return false;
     }
     if m < 1 {
@@ -141,11 +152,12 @@ pub fn admitted(log: &[u8]) -> bool
     }
     let n = byte(log, Layout::CELLS);
     let m = byte(log, Layout::MUTATORS);
-    if !counts(n, m) {
+    let size = roots_size(log);
+    if !counts(Version::BITS_PER_BYTE * (size as u32), n, m) {
         return false;
     }
-    let size = heap::roots_place(n, m) as usize;
-    if log.len() < size {
+    let end = heap::roots_place(size, n, m) as usize;
+    if log.len() < end {
         return false;
     }
     let used = heap::used(log, n);

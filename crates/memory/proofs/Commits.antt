@@ -6,7 +6,7 @@
 --     committed-field                   each field is as before, or has the value of the store
 --     field-here, fields-elsewhere      that field of that cell alone
 use mathlib.Core.Path.{_≡_, refl, sym, _∙_, ap}
-use mathlib.Core.Bool.{Bool, false}
+use mathlib.Core.Bool.{Bool}
 use mathlib.Core.Logic.{_⊎_}
 use Prim.Native.Nat.{ℕ, _≤_}
 use native.Mathlib.Omega.{arith}
@@ -19,7 +19,7 @@ use Rattle.buffers.proofs.Hits.{hits-own, hits-other}
 use Rattle.memory.specs.declared.Memory.{Memory}
 use Rattle.memory.specs.Memories.{markOf, fieldOf, putMarkOf, putFieldOf, withSense, withAllocSense, withPhase, thereOf, standsOf, appliedOf}
 use Rattle.memory.proofs.Shapes.{Shaped}
-use Rattle.memory.proofs.Spots.{lastField, Alike, cell-same, cell-other, held-field, field-same, applied-field}
+use Rattle.memory.proofs.Spots.{lastField, Alike, mark-same, mark-other, held-field, field-same, applied-field}
 use Rattle.memory.proofs.Effects.{Committed, committed-held}
 
 module _ {m : Memory} {p : ℕ} {n : Memory} (w : Committed m p n) where
@@ -44,13 +44,13 @@ module _ {m : Memory} {p : ℕ} {n : Memory} (w : Committed m p n) where
   phase-committed e = rw e at (w .alike)
 
   pub marks-elsewhere : {c : ℕ} {b : Bool} (d : ℕ) → w .oldest .store ≡ store.Mark c b → (d ≡ c → ⊥) → markOf n d ≡ markOf m d
-  marks-elsewhere {c} {b} d e ne = rw (mark-committed e .marks) (cell-other (m .marks) false b c d ne)
+  marks-elsewhere {c} {b} d e ne = rw (mark-committed e .marks) (mark-other (m .marks) c d b ne)
 
   pub mark-here : {c : ℕ} {b : Bool} → Shaped m → w .oldest .store ≡ store.Mark c b → markOf n c ≡ b
   unfolding thereOf
   mark-here {c} {b} z e =
       let t = rw e at (w .there) in
-      rw (mark-committed e .marks) (cell-same (m .marks) false b c (member-pos (m .used) c t) (omega (arith, z .marks, z .within c t)))
+      rw (mark-committed e .marks) (mark-same (m .marks) c b (member-pos (m .used) c t) (omega (arith, z .within c t)))
 
   pub committed-field : (d g : ℕ) → (fieldOf n d g ≡ fieldOf m d g) ⊎ (fieldOf n d g ≡ valueOf (w .oldest .store))
   committed-field d g = rw (field-same (appliedOf m (w .oldest .store)) n d g (w .alike)) (applied-field m (w .oldest .store) d g)

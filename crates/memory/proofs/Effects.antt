@@ -36,12 +36,12 @@ use Rattle.buffers.specs.Buffers.{pushOf, popOf}
 use Rattle.buffers.proofs.Fifos.{push-room, push-last, pop-oldest}
 use Rattle.memory.specs.declared.Memory.{Memory}
 use Rattle.memory.specs.declared.Done.{Done}
-use Rattle.memory.specs.Memories.{maxCells, maxProcesses, taken, refused, withUsed, withMarks, withField0, withField1, withLock, putCell, usedOf, bufferOf, withBuffer, pendingLenOf, blockedOf, thereOf, standsOf, appliedOf, allocatedOf, freedOf}
+use Rattle.memory.specs.Memories.{maxCells, maxProcesses, taken, refused, withUsed, withMarks, withField0, withField1, withLock, putCell, usedOf, markedOf, bufferOf, withBuffer, pendingLenOf, blockedOf, thereOf, standsOf, appliedOf, allocatedOf, freedOf}
 use Rattle.memory.specs.Steps.{writeOf, commitOf, fenceOf, lockOf, unlockOf, allocateOf, freeOf}
 use Rattle.memory.specs.Views.{pendingFor}
 pub use Rattle.memory.specs.Effects.{Written, Committed, Fenced, Relocked, Locked, Unlocked, Reset, Allocated, Freed}
 use Rattle.memory.proofs.Shapes.{Shaped, pending-empty, pending-absent, there-or-not, buffer-same, buffer-other}
-use Rattle.memory.proofs.Spots.{Plain, Alike, Settled, cell-same, cell-other, held-same, held-applied, applied-settled, applied-lock, applied-buffers}
+use Rattle.memory.proofs.Spots.{Plain, Alike, Settled, mark-same, mark-other, cell-same, cell-other, held-same, held-applied, applied-settled, applied-lock, applied-buffers}
 
 -- ---- answers
 pub is-taken : (d : Done) → d .no ≡ asTaken → d ≡ taken (d .memory)
@@ -146,14 +146,14 @@ unlock-taken {m} p {n} z h = let a = unlock-went m p h in record { empty = pendi
 
 -- ---- allocate, free: one cell is occupied or free from now on, with mark b and null fields
 module _ (m : Memory) (z : Shaped m) (c : ℕ) (pos : 0 < c) (l : c ≤ maxCells) where
-  reset : (k : ℕ) (u b : Bool) → memberOf k c ≡ u → ((d : ℕ) → (d ≡ c → ⊥) → memberOf k d ≡ usedOf m d) → Reset m c u b (withField1 (withField0 (withMarks (withUsed m k) (putCell (m .marks) c b)) (putCell (m .field0) c 0)) (putCell (m .field1) c 0))
+  reset : (k : ℕ) (u b : Bool) → memberOf k c ≡ u → ((d : ℕ) → (d ≡ c → ⊥) → memberOf k d ≡ usedOf m d) → Reset m c u b (withField1 (withField0 (withMarks (withUsed m k) (markedOf (m .marks) c b)) (putCell (m .field0) c 0)) (putCell (m .field1) c 0))
   unfolding pendingFor
   reset k u b e f =
       record {
         used = e;
         used-others = f;
-        mark = cell-same (m .marks) false b c pos (omega (arith, z .marks));
-        marks-others = λ d ne. cell-other (m .marks) false b c d ne;
+        mark = mark-same (m .marks) c b pos (omega arith);
+        marks-others = λ d ne. mark-other (m .marks) c d b ne;
         fields = λ g. picked (λ v. v ≡ 0) (eqb g 0) (cell-same (m .field0) 0 0 c pos (omega (arith, z .field0))) (cell-same (m .field1) 0 0 c pos (omega (arith, z .field1)));
         fields-others = λ d g ne. rw (cell-other (m .field0) 0 0 c d ne, cell-other (m .field1) 0 0 c d ne);
         fm = refl;

@@ -6,7 +6,6 @@
 --     shaped-buffer, shaped-applied, shaped-lock, shaped-allocated, shaped-freed     so are the memories that the
 --     steps are made of
 use mathlib.Core.Path.{_≡_, refl, _∙_, ap}
-use mathlib.Core.Bool.{false}
 use mathlib.Core.Logic.{⊎-elim}
 use mathlib.Core.List.{List}
 use Prim.Native.Nat.{ℕ, _-_, _+_, _≤_, _<_}
@@ -37,10 +36,9 @@ put-length {A} l c v = picked (λ (k : List A). length k ≡ length l) (eqb c 0)
 abbrev Kept : Done → Type 0
 Kept d = Shaped (d .memory)
 
-pub shaped-like : (m n : Memory) → Shaped m → n .marks ≡ m .marks → n .field0 ≡ m .field0 → n .field1 ≡ m .field1 → n .buffers ≡ m .buffers → n .used ≡ m .used → Shaped n
-shaped-like m n z a b c d e =
+pub shaped-like : (m n : Memory) → Shaped m → n .field0 ≡ m .field0 → n .field1 ≡ m .field1 → n .buffers ≡ m .buffers → n .used ≡ m .used → Shaped n
+shaped-like m n z b c d e =
     record {
-      marks = rw a (z .marks);
       field0 = rw b (z .field0);
       field1 = rw c (z .field1);
       buffers = rw d (z .buffers);
@@ -50,7 +48,7 @@ shaped-like m n z a b c d e =
 
 module _ (m : Memory) (z : Shaped m) where
   pub shaped-buffer : (p : ℕ) (b : Buffer) → Sized b → Shaped (withBuffer m p b)
-  shaped-buffer p b k = record { marks = z .marks; field0 = z .field0; field1 = z .field1; buffers = length-set (m .buffers) p b ∙ z .buffers; sized = sized; within = z .within }
+  shaped-buffer p b k = record { field0 = z .field0; field1 = z .field1; buffers = length-set (m .buffers) p b ∙ z .buffers; sized = sized; within = z .within }
     where
       sized : (q : ℕ) → q < maxProcesses → Sized (bufferOf (withBuffer m p b) q)
       sized q l = go (ℕ-discrete q p)
@@ -61,27 +59,25 @@ module _ (m : Memory) (z : Shaped m) where
 
   pub shaped-applied : (s : Store) → Shaped (appliedOf m s)
   unfolding appliedOf
-  shaped-applied (store.Mark c b) = record { marks = put-length (m .marks) c b ∙ z .marks; field0 = z .field0; field1 = z .field1; buffers = z .buffers; sized = z .sized; within = z .within }
+  shaped-applied (store.Mark c b) = record { field0 = z .field0; field1 = z .field1; buffers = z .buffers; sized = z .sized; within = z .within }
   shaped-applied (store.Field c f v) =
       record {
-        marks = z .marks;
         field0 = picked (λ (l : List ℕ). length l ≡ maxCells) (eqb f 0) (put-length (m .field0) c v ∙ z .field0) (z .field0);
         field1 = picked (λ (l : List ℕ). length l ≡ maxCells) (eqb f 0) (z .field1) (put-length (m .field1) c v ∙ z .field1);
         buffers = z .buffers;
         sized = z .sized;
         within = z .within;
       }
-  shaped-applied (store.Sense b) = shaped-like m (withSense m b) z refl refl refl refl refl
-  shaped-applied (store.AllocSense b) = shaped-like m (withAllocSense m b) z refl refl refl refl refl
-  shaped-applied (store.Phase x) = shaped-like m (withPhase m x) z refl refl refl refl refl
+  shaped-applied (store.Sense b) = shaped-like m (withSense m b) z refl refl refl refl
+  shaped-applied (store.AllocSense b) = shaped-like m (withAllocSense m b) z refl refl refl refl
+  shaped-applied (store.Phase x) = shaped-like m (withPhase m x) z refl refl refl refl
 
   pub shaped-lock : (k : ℕ) → Shaped (withLock m k)
-  shaped-lock k = shaped-like m (withLock m k) z refl refl refl refl refl
+  shaped-lock k = shaped-like m (withLock m k) z refl refl refl refl
 
   pub shaped-allocated : (c : ℕ) → c ≤ maxCells → Shaped (allocatedOf m c)
   shaped-allocated c l =
       record {
-        marks = put-length (m .marks) c (m .fa) ∙ z .marks;
         field0 = put-length (m .field0) c 0 ∙ z .field0;
         field1 = put-length (m .field1) c 0 ∙ z .field1;
         buffers = z .buffers;
@@ -92,7 +88,6 @@ module _ (m : Memory) (z : Shaped m) where
   pub shaped-freed : (c : ℕ) → Shaped (freedOf m c)
   shaped-freed c =
       record {
-        marks = put-length (m .marks) c false ∙ z .marks;
         field0 = put-length (m .field0) c 0 ∙ z .field0;
         field1 = put-length (m .field1) c 0 ∙ z .field1;
         buffers = z .buffers;

@@ -10,6 +10,7 @@
 --     applied-field                       so each field is as before, or has the value stored
 --     applied-settled, applied-lock, applied-buffers     a store changes neither the occupied cells nor the counts,
 --                                                        the lock and the buffers
+--     mark-same, mark-other                            one cell's mark is put
 --     cell-same, cell-other, cell-put, cell-either     one cell of an array is put
 use mathlib.Core.Path.{_≡_, refl, sym, _∙_, ap}
 use mathlib.Core.Bool.{Bool, true, false}
@@ -25,7 +26,9 @@ use borrow.Author.Tests.{eqb-true, eq-eqb, ne-eqb}
 use Rattle.base.specs.Pick.{pick}
 use Rattle.base.specs.Every.{_and_}
 use Rattle.base.proofs.Everies.{and-both}
-use Rattle.cells.proofs.Members.{member-pos}
+use Rattle.cells.specs.Sets.{maxSet, memberOf, Member, addOf, removeOf}
+use Rattle.cells.proofs.Bools.{same-test}
+use Rattle.cells.proofs.Members.{member-pos, in-add, add-same, add-keeps, in-remove, remove-keeps, remove-gone}
 use Rattle.buffers.specs.declared.Phase.{Phase}
 use Rattle.buffers.specs.declared.Store.{Store}
 use Rattle.buffers.specs.declared.Store.the-variants as store
@@ -33,11 +36,25 @@ use Rattle.buffers.specs.declared.Spot.{Spot}
 use Rattle.buffers.specs.declared.Spot.the-variants as spot
 use Rattle.buffers.specs.Stores.{spotOf, hitsOf, valueOf}
 use Rattle.memory.specs.declared.Memory.{Memory}
-use Rattle.memory.specs.Memories.{maxCells, atCell, putCell, usedOf, markOf, fieldOf, putFieldOf, thereOf, standsOf, appliedOf}
+use Rattle.memory.specs.Memories.{maxCells, atCell, putCell, usedOf, markOf, markedOf, fieldOf, putFieldOf, thereOf, standsOf, appliedOf}
 pub use Rattle.memory.specs.Shapes.{lastField, Plain}
 pub use Rattle.memory.specs.Effects.{Alike, Settled}
 use Rattle.memory.proofs.Shapes.{Shaped}
 use Rattle.memory.proofs.Ends.{put-past}
+
+-- ---- one cell's mark
+module _ (s : ℕ) where
+  pub mark-same : (c : ℕ) (b : Bool) → 0 < c → c ≤ maxSet → memberOf (markedOf s c b) c ≡ b
+  mark-same c true p h = add-same s c p h
+  mark-same c false p h = remove-gone s c
+
+  pub mark-other : (c d : ℕ) (b : Bool) → (d ≡ c → ⊥) → memberOf (markedOf s c b) d ≡ memberOf s d
+  mark-other c d true n = same-test (memberOf (addOf s c) d) (memberOf s d) (λ h. old (in-add s c d h)) (add-keeps s c d)
+    where
+      old : (Member s d) ⊎ (c ≡ d) → Member s d
+      old (inl h) = h
+      old (inr e) = absurd (n (sym e))
+  mark-other c d false n = same-test (memberOf (removeOf s c) d) (memberOf s d) (λ h. in-remove s c d h .0) (λ h. remove-keeps s c d h (λ e. n (sym e)))
 
 -- ---- one cell of an array
 module _ {A : Type 0} (l : List A) (z v : A) where
@@ -193,9 +210,9 @@ module _ (m : Memory) (z : Shaped m) where
   unfolding standsOf appliedOf hitsOf
   mark-applied c b d p h = go (ℕ-discrete c d)
     where
-      go : Dec (c ≡ d) → store.Mark d (atCell (putCell (m .marks) c b) d false) ≡ pick (pick (eqb c d) true false) (store.Mark c b) (store.Mark d (markOf m d))
-      go (yes e) = rw (eq-eqb c d e, ← e) (ap (store.Mark c) (cell-same (m .marks) false b c p (omega (arith, z .marks))))
-      go (no n) = rw (ne-eqb c d n) (ap (store.Mark d) (cell-other (m .marks) false b c d (λ q. n (sym q))))
+      go : Dec (c ≡ d) → store.Mark d (memberOf (markedOf (m .marks) c b) d) ≡ pick (pick (eqb c d) true false) (store.Mark c b) (store.Mark d (markOf m d))
+      go (yes e) = rw (eq-eqb c d e, ← e) (ap (store.Mark c) (mark-same (m .marks) c b p (omega arith)))
+      go (no n) = rw (ne-eqb c d n) (ap (store.Mark d) (mark-other (m .marks) c d b (λ q. n (sym q))))
 
   field-put : (c f v d g : ℕ) → 0 < c → c ≤ maxCells → f ≤ lastField → g ≤ lastField → fieldOf (putFieldOf m c f v) d g ≡ pick (pick (eqb c d) (eqb f g) false) v (fieldOf m d g)
   field-put c f v d g p h j i = go (bit-field f j) (bit-field g i)

@@ -19,9 +19,9 @@ use Rattle.memory.specs.declared.Memory.{Memory}
 use Rattle.memory.specs.declared.Done.{Done}
 use Rattle.memory.specs.declared.Seen.{Seen}
 
--- "Cells 1..N, N from 1 to 32"; "Processes 0 (collector) and 1..M (mutators), M from 1 to 4"
+-- "Cells 1..N", "Raise N to 64"; "Processes 0 (collector) and 1..M (mutators), M from 1 to 4"
 abbrev pub maxCells : ℕ
-maxCells = 32
+maxCells = 64
 
 abbrev pub maxMutators : ℕ
 maxMutators = 4
@@ -43,8 +43,8 @@ unseen n = record { no = n; store = noStore }
 abbrev pub withUsed : Memory → ℕ → Memory
 withUsed m s = record { cells = m .cells; processes = m .processes; used = s; marks = m .marks; field0 = m .field0; field1 = m .field1; fm = m .fm; fa = m .fa; phase = m .phase; lock = m .lock; buffers = m .buffers }
 
-abbrev pub withMarks : Memory → List Bool → Memory
-withMarks m bs = record { cells = m .cells; processes = m .processes; used = m .used; marks = bs; field0 = m .field0; field1 = m .field1; fm = m .fm; fa = m .fa; phase = m .phase; lock = m .lock; buffers = m .buffers }
+abbrev pub withMarks : Memory → ℕ → Memory
+withMarks m s = record { cells = m .cells; processes = m .processes; used = m .used; marks = s; field0 = m .field0; field1 = m .field1; fm = m .fm; fa = m .fa; phase = m .phase; lock = m .lock; buffers = m .buffers }
 
 abbrev pub withField0 : Memory → List ℕ → Memory
 withField0 m vs = record { cells = m .cells; processes = m .processes; used = m .used; marks = m .marks; field0 = vs; field1 = m .field1; fm = m .fm; fa = m .fa; phase = m .phase; lock = m .lock; buffers = m .buffers }
@@ -67,8 +67,8 @@ withLock m k = record { cells = m .cells; processes = m .processes; used = m .us
 abbrev pub withBuffers : Memory → List Buffer → Memory
 withBuffers m bs = record { cells = m .cells; processes = m .processes; used = m .used; marks = m .marks; field0 = m .field0; field1 = m .field1; fm = m .fm; fa = m .fa; phase = m .phase; lock = m .lock; buffers = bs }
 
--- ---- cells by number: cell c stands at c - 1 of each array. For null, and for a number past the end, nothing is
--- read and nothing is changed.
+-- ---- cells by number: the occupied ones and those whose mark is 1 are sets; the fields of cell c stand at c - 1 of
+-- each array. For null, and for a number past the end, nothing is read and nothing is changed.
 abbrev pub atCell : {A : Type 0} → List A → ℕ → A → A
 atCell l c zero = pick (eqb c 0) zero (getD l (c - 1) zero)
 
@@ -80,14 +80,17 @@ abbrev pub usedOf : Memory → ℕ → Bool
 usedOf m c = memberOf (m .used) c
 
 abbrev pub markOf : Memory → ℕ → Bool
-markOf m c = atCell (m .marks) c false
+markOf m c = memberOf (m .marks) c
+
+abbrev pub markedOf : ℕ → ℕ → Bool → ℕ
+markedOf s c b = pick b (addOf s c) (removeOf s c)
 
 -- field 0 is field 0, and any other number is field 1
 abbrev pub fieldOf : Memory → ℕ → ℕ → ℕ
 fieldOf m c f = pick (eqb f 0) (atCell (m .field0) c 0) (atCell (m .field1) c 0)
 
 abbrev pub putMarkOf : Memory → ℕ → Bool → Memory
-putMarkOf m c b = withMarks m (putCell (m .marks) c b)
+putMarkOf m c b = withMarks m (markedOf (m .marks) c b)
 
 abbrev pub putFieldOf : Memory → ℕ → ℕ → ℕ → Memory
 putFieldOf m c f v =
@@ -140,12 +143,12 @@ appliedOf m (store.Phase p) = withPhase m p
 abbrev pub allocatedOf : Memory → ℕ → Memory
 allocatedOf m c =
     withField1
-    (withField0 (withMarks (withUsed m (addOf (m .used) c)) (putCell (m .marks) c (m .fa))) (putCell (m .field0) c 0))
+    (withField0 (withMarks (withUsed m (addOf (m .used) c)) (markedOf (m .marks) c (m .fa))) (putCell (m .field0) c 0))
     (putCell (m .field1) c 0)
 
 -- memory with the cell free: "a free cell's mark and fields" are unused, and "a step zeroes what it stops using"
 abbrev pub freedOf : Memory → ℕ → Memory
 freedOf m c =
     withField1
-    (withField0 (withMarks (withUsed m (removeOf (m .used) c)) (putCell (m .marks) c false)) (putCell (m .field0) c 0))
+    (withField0 (withMarks (withUsed m (removeOf (m .used) c)) (markedOf (m .marks) c false)) (putCell (m .field0) c 0))
     (putCell (m .field1) c 0)

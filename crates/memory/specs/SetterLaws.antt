@@ -38,9 +38,9 @@ WithUsedLaw =
 
 abbrev pub WithMarksLaw : Type 0
 WithMarksLaw =
-    (m : Memory) (bs : List Bool) →
-    let n = withMarks m bs in
-    (n .used ≡ m .used) × (n .marks ≡ bs) × (n .field0 ≡ m .field0) × (n .field1 ≡ m .field1) × SameCounts m n × SameSenses m n × SameLock m n × SameBuffers m n
+    (m : Memory) (b : ℕ) →
+    let n = withMarks m b in
+    (n .used ≡ m .used) × (n .marks ≡ b) × (n .field0 ≡ m .field0) × (n .field1 ≡ m .field1) × SameCounts m n × SameSenses m n × SameLock m n × SameBuffers m n
 
 abbrev pub WithField0Law : Type 0
 WithField0Law =

@@ -14,7 +14,6 @@ use Rattle.memory.specs.Memories.{maxCells, maxProcesses, usedOf, buffer
 
 -- arrays have their lengths, buffers are sized, occupied cells are within the arrays. Every step keeps it (Laws).
 pub record Shaped (m : Memory) : Type 0 where
-  pub marks : length (m .marks) ≡ maxCells
   pub field0 : length (m .field0) ≡ maxCells
   pub field1 : length (m .field1) ≡ maxCells
   pub buffers : length (m .buffers) ≡ maxProcesses

@@ -6,24 +6,10 @@ use base::Refusal;
 use buffers::Spot;
 use buffers::Store;
 ghost use mathlib.Core.Path.{_≡_};
-ghost use mathlib.Core.Bool.{false};
 ghost use Rattle.memory.specs.Memories.{atCell, putCell, usedOf, markOf, fieldOf, putMarkOf, putFieldOf, thereOf, standsOf, appliedOf, allocatedOf, freedOf};
 ghost use Rattle.memory.specs.Steps.{allocateOf, freeOf};
 
 // What stands in the array for the cell c: zero for null and for a number past the end.
-fn bit_at(bits: [bool; Memory::CELLS], c: u8) -> bool
-    ensures { λ r. ⌜ r ≡ atCell bits c false ⌝ }
-{
-    if c == 0 {
-        return false;
-    }
-    let i = (c - 1) as usize;
-    if Memory::CELLS <= i {
-        return false;
-    }
-    bits[i]
-}
-
 fn byte_at(bytes: [u8; Memory::CELLS], c: u8) -> u8
     ensures { λ r. ⌜ r ≡ atCell bytes c 0 ⌝ }
 {
@@ -38,20 +24,6 @@ fn byte_at(bytes: [u8; Memory::CELLS], c: u8) -> u8
 }
 
 // The array with another value for the cell c: the same array for null and for a number past the end.
-fn put_bit(mut bits: [bool; Memory::CELLS], c: u8, bit: bool) -> [bool; Memory::CELLS]
-    ensures { λ r. ⌜ r ≡ putCell bits c bit ⌝ }
-{
-    if c == 0 {
-        return bits;
-    }
-    let i = (c - 1) as usize;
-    if Memory::CELLS <= i {
-        return bits;
-    }
-    bits[i] = bit;
-    bits
-}
-
 fn put_byte(mut bytes: [u8; Memory::CELLS], c: u8, byte: u8) -> [u8; Memory::CELLS]
     ensures { λ r. ⌜ r ≡ putCell bytes c byte ⌝ }
 {
@@ -78,8 +50,7 @@ impl Memory {
     pub fn mark(self, c: u8) -> bool
         ensures { λ r. ⌜ r ≡ markOf self c ⌝ }
     {
-        let marks = self.marks;
-        bit_at(marks, c)
+        cells::member(self.marks, c)
     }
 
     // The cell's field in memory: 0 is field 0, any other number field 1.
@@ -97,9 +68,11 @@ impl Memory {
     fn put_mark(mut self, c: u8, bit: bool) -> Memory
         ensures { λ r. ⌜ r ≡ putMarkOf self c bit ⌝ }
     {
-        let old = self.marks;
-        let marks = put_bit(old, c, bit);
-        self.marks = marks;
+        if bit {
+            self.marks = cells::add(self.marks, c);
+            return self;
+        }
+        self.marks = cells::remove(self.marks, c);
         self
     }
 

@@ -24,7 +24,7 @@ pub struct Memory {
     // the occupied cells, a set
     pub used: u64,
     // cell c has its mark and its fields at c - 1
-    pub marks: [bool; Memory::CELLS],
+    pub marks: u64,
     pub field0: [u8; Memory::CELLS],
     pub field1: [u8; Memory::CELLS],
     pub fm: bool,
@@ -71,7 +71,7 @@ pub struct Swept {
 
 // Limits: cells, and processes with the collector.
 impl Memory {
-    pub const CELLS: usize = 32;
+    pub const CELLS: usize = 64;
 
     pub const PROCESSES: usize = 5;
 }

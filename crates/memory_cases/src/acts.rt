@@ -132,10 +132,8 @@ fn look(m: Memory, a: Act) {
 
 // ---- what no step does
 
-fn with_mark(mut m: Memory, i: usize) -> Memory {
-    if i < Memory::CELLS {
-        m.marks[i] = true;
-    }
+fn with_mark(mut m: Memory, c: u8) -> Memory {
+    m.marks = cells::add(m.marks, c);
     m
 }
 
@@ -207,7 +205,7 @@ fn poke(m: Memory, a: Act) -> Memory {
     let letter = a.letter;
     match letter {
         b'0' => bare(),
-        b'5' => with_mark(m, place(a.c)),
+        b'5' => with_mark(m, a.c),
         b'6' => with_field(m, place(a.c), a.f, a.v),
         b'7' => with_length(m, a.p as usize, a.v as usize),
         b'8' => with_entry(m, a.p as usize, a.f as usize, a.v),

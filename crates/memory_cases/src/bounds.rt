@@ -35,20 +35,20 @@ fn null() {
     );
 }
 
-// Above N a cell is free. Memory would occupy one, and would then not be well formed; the arrays have no place for
-// cell 33, and a set has none for 65.
+// Above N a cell is free. Memory would occupy one, and would then not be well formed; neither the arrays nor a set have
+// a place for cell 65.
 fn above() {
     run(
-        b"1 looks at cell 4, reads field 0 of cell 33, writes it, commits:",
-        b"M14.. F1Q0. w1Q01 c1... ",
+        b"1 looks at cell 4, reads field 0 of cell 65, writes it, commits:",
+        b"M14.. F1q0. w1q01 c1... ",
     );
     run(
         b"0 allocates cell 4, occupied, well formed:",
         b"a04.. U.4.. W.... ",
     );
     run(
-        b"0 allocates cell 33, occupied, 1 looks at it, well formed:",
-        b"a0Q.. U.Q.. M1Q.. W.... ",
+        b"0 allocates cell 64, occupied, 1 looks at it, well formed:",
+        b"a0p.. U.p.. M1p.. W.... ",
     );
     run(
         b"0 allocates cell 65, occupied, well formed:",

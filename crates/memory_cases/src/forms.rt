@@ -2,12 +2,12 @@
 //    keeps it. 1 is well formed, 0 malformed.
 use super::run;
 
-// "a count .. out of range": "N from 1 to 32"; "M from 1 to 4", so from 2 to 5 processes. All cells are free here.
+// "a count .. out of range": N from 1 to 64; "M from 1 to 4", so from 2 to 5 processes. All cells are free here.
 fn counts() {
     run(b"as begun:", b"W.... ");
     run(
-        b"0, 1, 32, 33 cells:",
-        b"0.... 1...0 W.... 1...1 W.... 1...P W.... 1...Q W.... ",
+        b"0, 1, 64, 65 cells:",
+        b"0.... 1...0 W.... 1...1 W.... 1...p W.... 1...q W.... ",
     );
     run(
         b"1, 2, 5, 6 processes:",
@@ -32,16 +32,16 @@ fn ranges() {
 // here: what a value may be is not memory's to say.
 fn cells() {
     run(
-        b"mark 1 of cell 3, occupied; free; of cell 32, above N:",
-        b"3.3.. 5.3.. W.... 0.... 5.3.. W.... 0.... 5.P.. W.... ",
+        b"mark 1 of cell 3, occupied; free; of cell 64, above N:",
+        b"3.3.. 5.3.. W.... 0.... 5.3.. W.... 0.... 5.p.. W.... ",
     );
     run(
-        b"field 0 at 74 of cell 3, occupied; free; of cell 32, above N:",
-        b"3.3.. 6.30z W.... 0.... 6.30z W.... 0.... 6.P0z W.... ",
+        b"field 0 at 74 of cell 3, occupied; free; of cell 64, above N:",
+        b"3.3.. 6.30z W.... 0.... 6.30z W.... 0.... 6.p0z W.... ",
     );
     run(
-        b"field 1 at 74 of cell 3, occupied; free; of cell 32, above N:",
-        b"3.3.. 6.31z W.... 0.... 6.31z W.... 0.... 6.P1z W.... ",
+        b"field 1 at 74 of cell 3, occupied; free; of cell 64, above N:",
+        b"3.3.. 6.31z W.... 0.... 6.31z W.... 0.... 6.p1z W.... ",
     );
 }
 

@@ -19,7 +19,7 @@ use memory::Memory;
 use memory::PhaseWord;
 
 // One step of a sequence: six bytes, a letter (see `acts`), four digits and a space. The digits go on after 9 by the
-// bytes' numbers: O is 31, P 32, Q 33, p 64, q 65.
+// bytes' numbers: p is 64, q 65.
 struct Act {
     letter: u8,
     p: u8,
@@ -56,7 +56,6 @@ fn digit(s: &[u8], i: usize) -> u8 {
 // Three cells, all free.
 fn bare() -> Memory {
     let empty = Buffer::empty();
-    let marks = [false; Memory::CELLS];
     let field0 = [0u8; Memory::CELLS];
     let field1 = [0u8; Memory::CELLS];
     let buffers = [empty; Memory::PROCESSES];
@@ -65,7 +64,7 @@ fn bare() -> Memory {
         cells: 3,
         processes: 3,
         used: 0,
-        marks,
+        marks: 0,
         field0,
         field1,
         fm: true,

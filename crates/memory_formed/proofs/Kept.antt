@@ -18,7 +18,7 @@ use borrow.Author.Tests.{ne-eqb}
 use Rattle.base.proofs.Picking.{pick-ind, picked}
 use Rattle.cells.specs.Sets.{memberOf, addOf, removeOf}
 use Rattle.cells.proofs.Bools.{split, not-both}
-use Rattle.cells.proofs.Members.{in-add, add-same, add-keeps, in-remove, remove-keeps}
+use Rattle.cells.proofs.Members.{in-add, add-same, add-keeps, in-remove, remove-keeps, remove-gone}
 use Rattle.buffers.specs.declared.Store.{Store}
 use Rattle.buffers.specs.declared.Store.the-variants as store
 use Rattle.buffers.specs.declared.Entry.{Entry}
@@ -30,9 +30,9 @@ use Rattle.buffers.proofs.Wells.{push-kept, pop-kept}
 use Rattle.memory.specs.declared.PhaseWord.{PhaseWord}
 use Rattle.memory.specs.declared.Memory.{Memory}
 use Rattle.memory.specs.declared.Done.{Done}
-use Rattle.memory.specs.Memories.{maxCells, maxProcesses, atCell, putCell, usedOf, noBuffer, bufferOf, withUsed, withMarks, withField0, withField1, withBuffer, pendingLenOf, blockedOf, thereOf, appliedOf, allocatedOf, freedOf}
+use Rattle.memory.specs.Memories.{maxCells, maxProcesses, atCell, putCell, usedOf, markedOf, noBuffer, bufferOf, withUsed, withMarks, withField0, withField1, withBuffer, pendingLenOf, blockedOf, thereOf, appliedOf, allocatedOf, freedOf}
 use Rattle.memory.specs.Steps.{writeOf, commitOf, fenceOf, lockOf, unlockOf, allocateOf, freeOf}
-use Rattle.memory.proofs.Spots.{cell-other, there-used}
+use Rattle.memory.proofs.Spots.{mark-other, cell-other, there-used}
 use Rattle.memory.proofs.Keeps.{put-length}
 use Rattle.memory_formed.specs.WellFormed.{MemoryFormed}
 
@@ -59,16 +59,15 @@ module _ {A : Type 0} where
 
 -- ---- other cells: what the facts ask of the set and of the arrays
 module _ (m : Memory) (w : MemoryFormed m) where
-  heap-kept : (s : ℕ) (bs : List Bool) (vs us : List ℕ) → length bs ≡ maxCells → length vs ≡ maxCells → length us ≡ maxCells →
+  heap-kept : (s b : ℕ) (vs us : List ℕ) → length vs ≡ maxCells → length us ≡ maxCells →
       ((c : ℕ) → memberOf s c ≡ true → IsCell (m .cells) c) →
-      ((c : ℕ) → memberOf s c ≡ false → atCell bs c false ≡ false) →
+      ((c : ℕ) → memberOf s c ≡ false → memberOf b c ≡ false) →
       ((c : ℕ) → memberOf s c ≡ false → atCell vs c 0 ≡ 0) →
       ((c : ℕ) → memberOf s c ≡ false → atCell us c 0 ≡ 0) →
-      MemoryFormed (withField1 (withField0 (withMarks (withUsed m s) bs) vs) us)
-  heap-kept s bs vs us a b d inside marked zero0 zero1 =
+      MemoryFormed (withField1 (withField0 (withMarks (withUsed m s) b) vs) us)
+  heap-kept s b vs us a d inside marked zero0 zero1 =
       record {
-        marks-sized = a;
-        field0-sized = b;
+        field0-sized = a;
         field1-sized = d;
         buffers-sized = w .buffers-sized;
         some-cells = w .some-cells;
@@ -92,7 +91,6 @@ module _ (m : Memory) (w : MemoryFormed m) where
       (record { cells = m .cells; processes = m .processes; used = m .used; marks = m .marks; field0 = m .field0; field1 = m .field1; fm = a; fa = b; phase = t; lock = k; buffers = bs })
   rest-kept a b t k bs e holds fit none =
       record {
-        marks-sized = w .marks-sized;
         field0-sized = w .field0-sized;
         field1-sized = w .field1-sized;
         buffers-sized = e;
@@ -122,23 +120,23 @@ module _ (m : Memory) (w : MemoryFormed m) where
   apart : (c x : ℕ) → usedOf m c ≡ true → usedOf m x ≡ false → x ≢ c
   apart c x u n e = not-both u (rw e at n)
 
-  mark-kept : (c : ℕ) (b : Bool) → usedOf m c ≡ true → MemoryFormed (withMarks m (putCell (m .marks) c b))
+  mark-kept : (c : ℕ) (b : Bool) → usedOf m c ≡ true → MemoryFormed (withMarks m (markedOf (m .marks) c b))
   mark-kept c b u =
-      heap-kept (m .used) (putCell (m .marks) c b) (m .field0) (m .field1) (put-length (m .marks) c b ∙ w .marks-sized) (w .field0-sized) (w .field1-sized) (w .used-cells)
-      (λ x n. cell-other (m .marks) false b c x (apart c x u n) ∙ w .free-mark x n)
+      heap-kept (m .used) (markedOf (m .marks) c b) (m .field0) (m .field1) (w .field0-sized) (w .field1-sized) (w .used-cells)
+      (λ x n. mark-other (m .marks) c x b (apart c x u n) ∙ w .free-mark x n)
       (λ x n. w .free-field x 0 n)
       (λ x n. w .free-field x 1 n)
 
   field0-kept : (c v : ℕ) → usedOf m c ≡ true → MemoryFormed (withField0 m (putCell (m .field0) c v))
   field0-kept c v u =
-      heap-kept (m .used) (m .marks) (putCell (m .field0) c v) (m .field1) (w .marks-sized) (put-length (m .field0) c v ∙ w .field0-sized) (w .field1-sized) (w .used-cells)
+      heap-kept (m .used) (m .marks) (putCell (m .field0) c v) (m .field1) (put-length (m .field0) c v ∙ w .field0-sized) (w .field1-sized) (w .used-cells)
       (w .free-mark)
       (λ x n. cell-other (m .field0) 0 v c x (apart c x u n) ∙ w .free-field x 0 n)
       (λ x n. w .free-field x 1 n)
 
   field1-kept : (c v : ℕ) → usedOf m c ≡ true → MemoryFormed (withField1 m (putCell (m .field1) c v))
   field1-kept c v u =
-      heap-kept (m .used) (m .marks) (m .field0) (putCell (m .field1) c v) (w .marks-sized) (w .field0-sized) (put-length (m .field1) c v ∙ w .field1-sized) (w .used-cells)
+      heap-kept (m .used) (m .marks) (m .field0) (putCell (m .field1) c v) (w .field0-sized) (put-length (m .field1) c v ∙ w .field1-sized) (w .used-cells)
       (w .free-mark)
       (λ x n. w .free-field x 0 n)
       (λ x n. cell-other (m .field1) 0 v c x (apart c x u n) ∙ w .free-field x 1 n)
@@ -153,10 +151,10 @@ module _ (m : Memory) (w : MemoryFormed m) where
 
   allocated-kept : (c : ℕ) → IsCell (m .cells) c → MemoryFormed (allocatedOf m c)
   allocated-kept c h =
-      heap-kept (addOf (m .used) c) (putCell (m .marks) c (m .fa)) (putCell (m .field0) c 0) (putCell (m .field1) c 0)
-      (put-length (m .marks) c (m .fa) ∙ w .marks-sized) (put-length (m .field0) c 0 ∙ w .field0-sized) (put-length (m .field1) c 0 ∙ w .field1-sized)
+      heap-kept (addOf (m .used) c) (markedOf (m .marks) c (m .fa)) (putCell (m .field0) c 0) (putCell (m .field1) c 0)
+      (put-length (m .field0) c 0 ∙ w .field0-sized) (put-length (m .field1) c 0 ∙ w .field1-sized)
       (λ x u. inside x (in-add (m .used) c x u))
-      (λ x n. cell-other (m .marks) false (m .fa) c x (other x n) ∙ w .free-mark x (before x n (split (usedOf m x))))
+      (λ x n. mark-other (m .marks) c x (m .fa) (other x n) ∙ w .free-mark x (before x n (split (usedOf m x))))
       (λ x n. cell-other (m .field0) 0 0 c x (other x n) ∙ w .free-field x 0 (before x n (split (usedOf m x))))
       (λ x n. cell-other (m .field1) 0 0 c x (other x n) ∙ w .free-field x 1 (before x n (split (usedOf m x))))
     where
@@ -173,16 +171,20 @@ module _ (m : Memory) (w : MemoryFormed m) where
 
   freed-kept : (c : ℕ) → MemoryFormed (freedOf m c)
   freed-kept c =
-      heap-kept (removeOf (m .used) c) (putCell (m .marks) c false) (putCell (m .field0) c 0) (putCell (m .field1) c 0)
-      (put-length (m .marks) c false ∙ w .marks-sized) (put-length (m .field0) c 0 ∙ w .field0-sized) (put-length (m .field1) c 0 ∙ w .field1-sized)
+      heap-kept (removeOf (m .used) c) (markedOf (m .marks) c false) (putCell (m .field0) c 0) (putCell (m .field1) c 0)
+      (put-length (m .field0) c 0 ∙ w .field0-sized) (put-length (m .field1) c 0 ∙ w .field1-sized)
       (λ x u. w .used-cells x (in-remove (m .used) c x u .0))
-      (λ x n. zero-at (m .marks) false (λ u. w .free-mark x u) n (ℕ-discrete x c))
+      (λ x n. unmarked x n (ℕ-discrete x c))
       (λ x n. zero-at (m .field0) 0 (λ u. w .free-field x 0 u) n (ℕ-discrete x c))
       (λ x n. zero-at (m .field1) 0 (λ u. w .free-field x 1 u) n (ℕ-discrete x c))
     where
       before : (x : ℕ) → memberOf (removeOf (m .used) c) x ≡ false → x ≢ c → (usedOf m x ≡ true) ⊎ (usedOf m x ≡ false) → usedOf m x ≡ false
       before x n e (inl u) = absurd (not-both (remove-keeps (m .used) c x u (λ q. e (sym q))) n)
       before x n e (inr u) = u
+
+      unmarked : (x : ℕ) → memberOf (removeOf (m .used) c) x ≡ false → Dec (x ≡ c) → memberOf (removeOf (m .marks) c) x ≡ false
+      unmarked x n (yes e) = rw e (remove-gone (m .marks) c)
+      unmarked x n (no e) = mark-other (m .marks) c x false e ∙ w .free-mark x (before x n e (split (usedOf m x)))
 
       zero-at : {A : Type 0} {x : ℕ} (l : List A) (d : A) → (usedOf m x ≡ false → atCell l x d ≡ d) → memberOf (removeOf (m .used) c) x ≡ false → Dec (x ≡ c) → atCell (putCell l c d) x d ≡ d
       zero-at l d z n (yes e) = rw e (put-zero l c d)

@@ -28,7 +28,6 @@ use Rattle.memory_formed.specs.WellFormed.{MemoryFormed}
 pub shaped : (m : Memory) → MemoryFormed m → Shaped m
 shaped m w =
     record {
-      marks = w .marks-sized;
       field0 = w .field0-sized;
       field1 = w .field1-sized;
       buffers = w .buffers-sized;

@@ -15,8 +15,10 @@ use Rattle.base.specs.Pick.{pick}
 use Rattle.base.specs.Every.{_and_}
 use Rattle.base.proofs.Everies.{and-both, unless, every-at, every-all}
 use Rattle.base.proofs.Lists.{beyond}
-use Rattle.cells.specs.Sets.{belowOf}
-use Rattle.cells.proofs.Bools.{split}
+use Rattle.cells.specs.Sets.{isNone, Sub, minusOf, belowOf}
+use Rattle.cells.proofs.Bools.{split, not-both}
+use Rattle.cells.proofs.Members.{isNone-true, isNone-empty}
+use Rattle.cells.proofs.Subsets.{sub-of-minus, minus-of-sub}
 use Rattle.cells.proofs.Belows.{below-range, below-of}
 use Rattle.buffers.specs.Buffers.{emptyBuffer}
 use Rattle.buffers.specs.Fits.{BufferFits, bufferFitsOf}
@@ -26,7 +28,6 @@ use Rattle.memory.specs.Memories.{maxCells, maxProcesses, atCell, usedOf, markO
 use Rattle.memory_formed.specs.WellFormed.{minCells, minProcesses, MemoryFormed, countsFitOf, cellFitsOf, cellAtOf, cellsFitOf, heldFitsOf, bufferAtOf, buffersFitOf, fitsOf, sizedOf, memoryFormedOf}
 
 record Sized (m : Memory) : Type 0 where
-  marks : length (m .marks) ≡ maxCells
   field0 : length (m .field0) ≡ maxCells
   field1 : length (m .field1) ≡ maxCells
   buffers : length (m .buffers) ≡ maxProcesses
@@ -41,10 +42,9 @@ module _ (m : Memory) where
   sized-told : sizedOf m ≡ true → Sized m
   unfolding sizedOf
   sized-told e =
-      let x = and-both (eqb (length (m .marks)) maxCells) _ e in
-      let y = and-both (eqb (length (m .field0)) maxCells) _ (x .1) in
+      let y = and-both (eqb (length (m .field0)) maxCells) _ e in
       let z = and-both (eqb (length (m .field1)) maxCells) _ (y .1) in
-      record { marks = eqb-true _ _ (x .0); field0 = eqb-true _ _ (y .0); field1 = eqb-true _ _ (z .0); buffers = eqb-true _ _ (z .1) }
+      record { field0 = eqb-true _ _ (y .0); field1 = eqb-true _ _ (z .0); buffers = eqb-true _ _ (z .1) }
 
   counts-told : countsFitOf m ≡ true → Counts m
   unfolding countsFitOf
@@ -58,10 +58,6 @@ module _ (m : Memory) where
 past-cell : {A : Type 0} (l : List A) (d : A) (i : ℕ) → length l ≡ maxCells → maxCells ≤ i → atCell l (i + 1) d ≡ d
 past-cell l d i e h = let q : i + 1 - 1 ≡ i = omega arith in rw (ne-eqb (i + 1) 0 (λ z. omega arith), q) (beyond l d i maxCells e h)
 
-record Zero (m : Memory) (c : ℕ) : Type 0 where
-  mark : markOf m c ≡ false
-  field : (f : ℕ) → fieldOf m c f ≡ 0
-
 field-zero : (m : Memory) (c : ℕ) → fieldOf m c 0 ≡ 0 → fieldOf m c 1 ≡ 0 → (f : ℕ) → fieldOf m c f ≡ 0
 field-zero m c x y f = go (ℕ-discrete f 0)
   where
@@ -70,23 +66,25 @@ field-zero m c x y f = go (ℕ-discrete f 0)
     go (no q) = rw (ne-eqb f 0 q) y
 
 module _ (m : Memory) (s : Sized m) (fit : cellsFitOf m ≡ true) where
-  zero-at : (i : ℕ) → Dec (i < maxCells) → usedOf m (i + 1) ≡ false → Zero m (i + 1)
+  zero-at : (i : ℕ) → Dec (i < maxCells) → usedOf m (i + 1) ≡ false → (f : ℕ) → fieldOf m (i + 1) f ≡ 0
   unfolding cellsFitOf cellFitsOf
   zero-at i (yes l) u =
-      let e : pick (markOf m (i + 1)) false (eqb (fieldOf m (i + 1) 0) 0 and eqb (fieldOf m (i + 1) 1) 0) ≡ true =
-      rw u at (every-at (cellAtOf m) maxCells i fit l) in
-      let x = unless (markOf m (i + 1)) _ e in
-      let y = and-both (eqb (fieldOf m (i + 1) 0) 0) _ (x .1) in
-      record { mark = x .0; field = field-zero m (i + 1) (eqb-true _ _ (y .0)) (eqb-true _ _ (y .1)) }
-  zero-at i (no l) u =
-      record {
-        mark = past-cell (m .marks) false i (s .marks) (omega arith);
-        field = field-zero m (i + 1) (past-cell (m .field0) 0 i (s .field0) (omega arith)) (past-cell (m .field1) 0 i (s .field1) (omega arith));
-      }
+      let e : eqb (fieldOf m (i + 1) 0) 0 and eqb (fieldOf m (i + 1) 1) 0 ≡ true = rw u at (every-at (cellAtOf m) maxCells i fit l) in
+      let y = and-both (eqb (fieldOf m (i + 1) 0) 0) _ e in
+      field-zero m (i + 1) (eqb-true _ _ (y .0)) (eqb-true _ _ (y .1))
+  zero-at i (no l) u = field-zero m (i + 1) (past-cell (m .field0) 0 i (s .field0) (omega arith)) (past-cell (m .field1) 0 i (s .field1) (omega arith))
 
-  zero-told : (c : ℕ) → usedOf m c ≡ false → Zero m c
-  zero-told zero u = record { mark = refl; field = field-zero m 0 refl refl }
+  zero-told : (c : ℕ) → usedOf m c ≡ false → (f : ℕ) → fieldOf m c f ≡ 0
+  zero-told zero u = field-zero m 0 refl refl
   zero-told (suc i) u = rw (← add-one i) (zero-at i (decLt i maxCells) (rw (← add-one i) at u))
+
+-- ---- marks: only of occupied cells
+unmarked-told : (m : Memory) → Sub (m .marks) (m .used) → (c : ℕ) → usedOf m c ≡ false → markOf m c ≡ false
+unmarked-told m h c u = go (split (markOf m c))
+  where
+    go : (markOf m c ≡ true) ⊎ (markOf m c ≡ false) → markOf m c ≡ false
+    go (inl t) = absurd (not-both (h c t) u)
+    go (inr t) = t
 
 -- ---- buffers
 module _ (m : Memory) (fit : buffersFitOf m ≡ true) where
@@ -109,13 +107,13 @@ told m e =
     let a = and-both (sizedOf m) (fitsOf m) e in
     let b = and-both (countsFitOf m) _ (a .1) in
     let d = and-both (belowOf (m .used) (m .cells)) _ (b .1) in
-    let f = unless (ltb (m .processes) (m .lock)) _ (d .1) in
+    let i = and-both (isNone (minusOf (m .marks) (m .used))) _ (d .1) in
+    let f = unless (ltb (m .processes) (m .lock)) _ (i .1) in
     let g = and-both (cellsFitOf m) (buffersFitOf m) (f .1) in
     let s = sized-told m (a .0) in
     let n = counts-told m (b .0) in
     let l : m .lock ≤ m .processes = ltb-false _ _ (f .0) in
     record {
-      marks-sized = s .marks;
       field0-sized = s .field0;
       field1-sized = s .field1;
       buffers-sized = s .buffers;
@@ -125,8 +123,8 @@ told m e =
       few-processes = n .few-processes;
       used-cells = λ c u. below-range (m .used) (m .cells) c (d .0) u;
       holder = λ p h. omega arith;
-      free-mark = λ c u. zero-told m s (g .0) c u .mark;
-      free-field = λ c f u. zero-told m s (g .0) c u .field f;
+      free-mark = unmarked-told m (sub-of-minus (m .marks) (m .used) (isNone-true (minusOf (m .marks) (m .used)) (i .0)));
+      free-field = λ c f u. zero-told m s (g .0) c u f;
       buffers = λ p h. held m (g .1) p (omega (arith, n .few-processes)) .0;
       no-process = none m (g .1);
     }
@@ -134,7 +132,7 @@ told m e =
 module _ (m : Memory) (w : MemoryFormed m) where
   sized-test : sizedOf m ≡ true
   unfolding sizedOf
-  sized-test = rw (eq-eqb _ _ (w .marks-sized), eq-eqb _ _ (w .field0-sized), eq-eqb _ _ (w .field1-sized), eq-eqb _ _ (w .buffers-sized)) refl
+  sized-test = rw (eq-eqb _ _ (w .field0-sized), eq-eqb _ _ (w .field1-sized), eq-eqb _ _ (w .buffers-sized)) refl
 
   counts-test : countsFitOf m ≡ true
   unfolding countsFitOf
@@ -153,7 +151,7 @@ module _ (m : Memory) (w : MemoryFormed m) where
     where
       go : (usedOf m c ≡ true) ⊎ (usedOf m c ≡ false) → cellFitsOf m c ≡ true
       go (inl u) = rw u refl
-      go (inr u) = rw (w .free-mark c u, w .free-field c 0 u, w .free-field c 1 u) (rw u refl)
+      go (inr u) = rw (w .free-field c 0 u, w .free-field c 1 u) (rw u refl)
 
   buffer-test : (p : ℕ) → p < maxProcesses → bufferAtOf m p ≡ true
   unfolding heldFitsOf
@@ -165,10 +163,17 @@ module _ (m : Memory) (w : MemoryFormed m) where
           let k : m .processes ≤ p = omega arith in
           rw (w .no-process p k l, buffer.well-formed (m .cells) emptyBuffer .1 (buffer.empty-fits (m .cells)), le-ltb p (m .processes) k) refl
 
+  marks-used : Sub (m .marks) (m .used)
+  marks-used c t = go (split (usedOf m c))
+    where
+      go : (usedOf m c ≡ true) ⊎ (usedOf m c ≡ false) → usedOf m c ≡ true
+      go (inl u) = u
+      go (inr u) = absurd (not-both t (w .free-mark c u))
+
   test : memoryFormedOf m ≡ true
   unfolding memoryFormedOf fitsOf cellsFitOf buffersFitOf
   test =
-      rw (sized-test, counts-test, below-of (m .used) (m .cells) (λ c u. w .used-cells c u .1), lock-test, every-all (cellAtOf m) maxCells (λ i l. cell-test (i + 1)))
+      rw (sized-test, counts-test, below-of (m .used) (m .cells) (λ c u. w .used-cells c u .1), minus-of-sub (m .marks) (m .used) marks-used, isNone-empty, lock-test, every-all (cellAtOf m) maxCells (λ i l. cell-test (i + 1)))
       (every-all (bufferAtOf m) maxProcesses buffer-test)
 
 pub well-formed : (m : Memory) → (memoryFormedOf m ≡ true) ↔ MemoryFormed m

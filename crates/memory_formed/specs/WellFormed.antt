@@ -10,14 +10,14 @@ use lib.Dec.{eqb, ltb, leb}
 use lib.ListN.{length}
 use Rattle.base.specs.Pick.{pick}
 use Rattle.base.specs.Every.{_and_, every}
-use Rattle.cells.specs.Sets.{belowOf}
+use Rattle.cells.specs.Sets.{isNone, minusOf, belowOf}
 use Rattle.buffers.specs.declared.Buffer.{Buffer}
 use Rattle.buffers.specs.Buffers.{emptyBuffer}
 use Rattle.buffers.specs.Fits.{IsCell, BufferFits, bufferFitsOf}
 use Rattle.memory.specs.declared.Memory.{Memory}
 use Rattle.memory.specs.Memories.{maxCells, maxProcesses, usedOf, markOf, fieldOf, bufferOf}
 
--- "N from 1 to 32"; "Processes 0 (collector) and 1..M (mutators), M from 1 to 4"
+-- N from 1 to 64; "Processes 0 (collector) and 1..M (mutators), M from 1 to 4"
 abbrev pub minCells : ℕ
 minCells = 1
 
@@ -27,7 +27,6 @@ minProcesses = 2
 -- ---- as facts
 pub record MemoryFormed (m : Memory) : Type 0 where
   -- the arrays have their lengths
-  pub marks-sized : length (m .marks) ≡ maxCells
   pub field0-sized : length (m .field0) ≡ maxCells
   pub field1-sized : length (m .field1) ≡ maxCells
   pub buffers-sized : length (m .buffers) ≡ maxProcesses
@@ -57,10 +56,7 @@ countsFitOf m =
     (leb (m .processes) maxProcesses)))
 
 unfoldable pub cellFitsOf : Memory → ℕ → Bool
-cellFitsOf m c =
-    pick (usedOf m c) true
-    (pick (markOf m c) false
-    (eqb (fieldOf m c 0) 0 and eqb (fieldOf m c 1) 0))
+cellFitsOf m c = pick (usedOf m c) true (eqb (fieldOf m c 0) 0 and eqb (fieldOf m c 1) 0)
 
 -- the cell at place i of the arrays
 abbrev pub cellAtOf : Memory → ℕ → Bool
@@ -83,13 +79,13 @@ unfoldable pub fitsOf : Memory → Bool
 fitsOf m =
     countsFitOf m
     and belowOf (m .used) (m .cells)
+    and isNone (minusOf (m .marks) (m .used))
     and (pick (ltb (m .processes) (m .lock)) false
     (cellsFitOf m and buffersFitOf m))
 
 unfoldable pub sizedOf : Memory → Bool
 sizedOf m =
-    eqb (length (m .marks)) maxCells
-    and eqb (length (m .field0)) maxCells
+    eqb (length (m .field0)) maxCells
     and eqb (length (m .field1)) maxCells
     and eqb (length (m .buffers)) maxProcesses
 

@@ -9,7 +9,7 @@ ghost use Rattle.memory_formed.specs.WellFormed.{countsFitOf, cellFitsOf
 pub struct Least;
 
 impl Least {
-    // "N from 1 to 32"
+    // N from 1 to 64
     pub const CELLS: u8 = 1;
 
     // "M from 1 to 4", and the collector
@@ -31,15 +31,12 @@ fn counts_fit(m: Memory) -> bool
     m.processes as usize <= Memory::PROCESSES
 }
 
-// "Unused: a free cell's mark and fields".
+// "Unused: a free cell's .. fields".
 fn cell_fits(m: Memory, c: u8) -> bool
     ensures { λ r. ⌜ r ≡ cellFitsOf m c ⌝ }
 {
     if m.is_used(c) {
         return true;
-    }
-    if m.mark(c) {
-        return false;
     }
     if m.field(c, 0) == 0 {
         return m.field(c, 1) == 0;
@@ -97,6 +94,10 @@ fn fits(m: Memory) -> bool
         return false;
     }
     if !cells::below(m.used, m.cells) {
+        return false;
+    }
+    // "a free cell's mark"
+    if !cells::is_empty(cells::minus(m.marks, m.used)) {
         return false;
     }
     if (m.processes as u16) < m.lock {

@@ -5,3 +5,4 @@ pub mod Exacts
 pub mod Cuts
 pub mod Ends
 pub mod Written
+pub mod Versions

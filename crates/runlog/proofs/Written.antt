@@ -61,29 +61,29 @@ written-right before after c w = rw (written-record-read before after c w) refl
 
 -- ---- a whole log
 pub log-opens : LogOpens
-log-opens h cs w f b =
+log-opens v h cs w f b =
     record {
-      bytes = bytes-join (bytesOf h) (recordsOf cs) (header.written-bytes h w) (bytes-turns (λ k. recordBytes (choiceOf cs k)) (length cs) (λ k l. written-record-bytes (choiceOf cs k) (f k l)));
-      admitted = header.written-admitted h (recordsOf cs) w b;
+      bytes = bytes-join (bytesOf v h) (recordsOf cs) (header.written-bytes v h w) (bytes-turns (λ k. recordBytes (choiceOf cs k)) (length cs) (λ k l. written-record-bytes (choiceOf cs k) (f k l)));
+      admitted = header.written-admitted v h (recordsOf cs) w b;
     }
 
 pub log-records : LogRecords
-log-records h cs f k l = read (logOf h cs) (placeOf (logOf h cs) k) (choiceOf cs k) (f k l) at
+log-records v h cs i f k l = read (logOf v h cs) (placeOf (logOf v h cs) k) (choiceOf cs k) (f k l) at
   where
     turn : (j : ℕ) → j < recordSize → getD (recordsOf cs) (recordSize * k + j) 0 ≡ getD (recordBytes (choiceOf cs k)) j 0
-    turn j b = rw append-nil at (turn-at (λ i. recordBytes (choiceOf cs i)) recordSize (λ i. refl) (length cs) k j [] l b)
+    turn j b = rw append-nil at (turn-at (λ n. recordBytes (choiceOf cs n)) recordSize (λ n. refl) (length cs) k j [] l b)
 
-    at : (j : ℕ) → j < recordSize → byteAt (logOf h cs) (placeOf (logOf h cs) k + j) ≡ getD (recordBytes (choiceOf cs k)) j 0
+    at : (j : ℕ) → j < recordSize → byteAt (logOf v h cs) (placeOf (logOf v h cs) k + j) ≡ getD (recordBytes (choiceOf cs k)) j 0
     at j b =
-        let e : placeOf (logOf h cs) k + j ≡ length (bytesOf h) + (recordSize * k + j) = omega (arith, header.written-size h (recordsOf cs)) in
-        rw e (getD-append-add (bytesOf h) (recordsOf cs) (recordSize * k + j) 0 ∙ turn j b)
+        let e : placeOf (logOf v h cs) k + j ≡ length (bytesOf v h) + (recordSize * k + j) = omega (arith, header.written-size v h (recordsOf cs) i) in
+        rw e (getD-append-add (bytesOf v h) (recordsOf cs) (recordSize * k + j) 0 ∙ turn j b)
 
 pub log-choices : LogChoices
-log-choices h cs f = up-to (length cs) (omega arith) ∙ whole
+log-choices v h cs i f = up-to (length cs) (omega arith) ∙ whole
   where
-    up-to : (n : ℕ) → n ≤ length cs → choicesOf (logOf h cs) n ≡ listed n (choiceOf cs)
+    up-to : (n : ℕ) → n ≤ length cs → choicesOf (logOf v h cs) n ≡ listed n (choiceOf cs)
     up-to zero b = refl
-    up-to (suc n) b = ap₂ (λ (l : List Choice) (c : Choice). l ++ (c ∷ [])) (up-to n (omega arith)) (ap (λ (r : Record). r .choice) (log-records h cs f n (omega arith)))
+    up-to (suc n) b = ap₂ (λ (l : List Choice) (c : Choice). l ++ (c ∷ [])) (up-to n (omega arith)) (ap (λ (r : Record). r .choice) (log-records v h cs i f n (omega arith)))
 
     sized : length (listed (length cs) (choiceOf cs)) ≡ length cs
     sized = length-listed (choiceOf cs) (length cs)

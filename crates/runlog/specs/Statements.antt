@@ -2,13 +2,14 @@
 use mathlib.Core.Path.{_≡_}
 use mathlib.Core.List.{List, [], _∷_, _++_}
 use mathlib.Core.Logic.{_⊎_, _↔_}
-use Prim.Native.Nat.{ℕ, zero, suc, _-_, _/_, _%_, _≤_, _<_}
+use Prim.Native.Nat.{ℕ, zero, suc, _+_, _-_, _/_, _%_, _≤_, _<_}
 use lib.Dec.{eqb}
 use lib.ListN.{length, take}
 use Rattle.base.specs.Pick.{pick}
 use Rattle.base.specs.Refusals.{byMalformed, notAdmitted, fewLeft}
 use Rattle.state.specs.declared.State.{State}
 use Rattle.state.specs.declared.Choice.{Choice}
+use Rattle.state.specs.declared.opening.Heap.{Heap}
 use Rattle.state.specs.Openings.{openingOf}
 use Rattle.state.specs.States.{takenOf}
 use Rattle.formed.specs.Fits.{HeapFits, WellFormed}
@@ -16,8 +17,10 @@ use Rattle.engine.specs.Steps.{stepOf}
 use Rattle.engine.specs.Runs as engine
 use Rattle.verdict.specs.Judged.{isMalformed, found, Judged}
 use Rattle.verdict.specs.Statements.{Verdicts}
-use Rattle.header.specs.Header.{maxLog, sizeOf, heapOf}
+use Rattle.header.specs.Bytes.{byteAt}
+use Rattle.header.specs.Header.{maxLog, version1, version2, sizeOf, heapOf}
 use Rattle.header.specs.Admitted.{Admitted}
+use Rattle.header.specs.Written.{bytesOf, SaidIn}
 use Rattle.runlog.specs.declared.Outcome.{Outcome}
 use Rattle.runlog.specs.declared.run.Run.{Run}
 use Rattle.runlog.specs.Records.{recordSize}
@@ -105,6 +108,27 @@ abbrev pub RunKeeps : Type 1
 RunKeeps =
     (P : State → Type 0) → ((s t : State) (c : Choice) → P s → stepOf s c ≡ takenOf t → P t)
     → (log : List ℕ) (k : ℕ) (s : State) → P (openingOf (heapOf log)) → Taken log k s → P s
+
+-- two logs of one heap, with the same bytes after their headers
+pub record SameRecords (a b : List ℕ) : Type 0 where
+  pub heap : heapOf a ≡ heapOf b
+  pub long : length a - sizeOf a ≡ length b - sizeOf b
+  pub bytes : (i : ℕ) → byteAt a (sizeOf a + i) ≡ byteAt b (sizeOf b + i)
+
+-- they have the same run, state by state, and the same three numbers, whatever their versions
+pub record SameRun (a b : List ℕ) : Type 0 where
+  pub after : (k : ℕ) → afterOf a k ≡ afterOf b k
+  pub ran : ranOf a ≡ ranOf b
+  pub numbers : judgeOf a ≡ judgeOf b
+
+abbrev pub RecordsDecide : Type 0
+RecordsDecide = (a b : List ℕ) → Admitted a → Admitted b → SameRecords a b → SameRun a b
+
+-- so have the version 1 log and the version 2 log of a heap and records
+abbrev pub VersionsAlike : Type 0
+VersionsAlike =
+    (h : Heap) (records : List ℕ) → SaidIn version1 h → length (bytesOf version1 h ++ records) ≤ maxLog → length (bytesOf version2 h ++ records) ≤ maxLog
+    → SameRun (bytesOf version1 h ++ records) (bytesOf version2 h ++ records)
 
 -- "A log that ends after any byte gives the run of its whole records."
 abbrev pub CutAnywhere : Type 0

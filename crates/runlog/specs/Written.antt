@@ -6,10 +6,10 @@ use Prim.Native.Nat.{ℕ, _≤_, _<_}
 use lib.ListN.{length, getD}
 use Rattle.state.specs.declared.Choice.{Choice}
 use Rattle.state.specs.declared.opening.Heap.{Heap}
-use Rattle.formed.specs.Fits.{HeapFits}
 use Rattle.header.specs.Bytes.{perByte}
 use Rattle.header.specs.Header.{maxLog}
-use Rattle.header.specs.Written.{littleOf, inTurn, Bytes, bytesOf, Opens}
+use Rattle.header.specs.Admitted.{IsVersion}
+use Rattle.header.specs.Written.{littleOf, inTurn, Bytes, bytesOf, SaidIn, Opens}
 use Rattle.runlog.specs.declared.record.Record.{Record}
 use Rattle.runlog.specs.Records.{recordSize, recordAt, checkOf}
 use Rattle.runlog.specs.Rule.{recordOf, RightCheck}
@@ -40,7 +40,7 @@ pub record ChoiceFits (c : Choice) : Type 0 where
 abbrev pub rightRecord : Choice → Record
 rightRecord c = record { choice = c; check = checkOf c }
 
--- ---- a whole log: the header of a heap, and a record for each choice
+-- ---- a whole log: the header of a heap in a version, and a record for each choice
 abbrev pub noChoice : Choice
 noChoice = record { process = 0; kind = 0; op = 0; x = 0; f = 0; y = 0 }
 
@@ -53,8 +53,8 @@ ChoicesFit cs = (k : ℕ) → k < length cs → ChoiceFits (choiceOf cs k)
 abbrev pub recordsOf : List Choice → List ℕ
 recordsOf cs = inTurn (length cs) (λ k. recordBytes (choiceOf cs k))
 
-abbrev pub logOf : Heap → List Choice → List ℕ
-logOf h cs = bytesOf h ++ recordsOf cs
+abbrev pub logOf : ℕ → Heap → List Choice → List ℕ
+logOf v h cs = bytesOf v h ++ recordsOf cs
 
 -- ---- what is proved of them
 -- "Records of 8 bytes"
@@ -73,10 +73,10 @@ WrittenRight = (before after : List ℕ) (c : Choice) → ChoiceFits c → Right
 
 -- a log written whole is an admitted log of bytes, and its records are those of the choices
 abbrev pub LogOpens : Type 0
-LogOpens = (h : Heap) (cs : List Choice) → HeapFits h → ChoicesFit cs → length (logOf h cs) ≤ maxLog → Opens (logOf h cs)
+LogOpens = (v : ℕ) (h : Heap) (cs : List Choice) → SaidIn v h → ChoicesFit cs → length (logOf v h cs) ≤ maxLog → Opens (logOf v h cs)
 
 abbrev pub LogRecords : Type 0
-LogRecords = (h : Heap) (cs : List Choice) → ChoicesFit cs → (k : ℕ) → k < length cs → recordOf (logOf h cs) k ≡ rightRecord (choiceOf cs k)
+LogRecords = (v : ℕ) (h : Heap) (cs : List Choice) → IsVersion v → ChoicesFit cs → (k : ℕ) → k < length cs → recordOf (logOf v h cs) k ≡ rightRecord (choiceOf cs k)
 
 abbrev pub LogChoices : Type 0
-LogChoices = (h : Heap) (cs : List Choice) → ChoicesFit cs → choicesOf (logOf h cs) (length cs) ≡ cs
+LogChoices = (v : ℕ) (h : Heap) (cs : List Choice) → IsVersion v → ChoicesFit cs → choicesOf (logOf v h cs) (length cs) ≡ cs

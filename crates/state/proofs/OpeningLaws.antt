@@ -8,24 +8,23 @@
 use mathlib.Core.Path.{_≡_, refl, sym, ap, _∙_, subst}
 use mathlib.Core.Bool.{Bool, true, false}
 use mathlib.Core.List.{[]}
-use Prim.Native.Nat.{ℕ, zero, suc, _+_, _-_, _≤_, _<_}
-use native.Mathlib.Decide.{decLt, ℕ-discrete}
+use Prim.Native.Nat.{ℕ, zero, suc, _-_, _≤_, _<_}
+use native.Mathlib.Decide.{decLt}
 use native.Mathlib.Omega.{arith}
 use lib.Dec.{ltb}
 use lib.ListN.{getD, replicate}
-use borrow.Author.Tests.{lt-ltb, le-ltb, ne-eqb}
+use borrow.Author.Tests.{lt-ltb, le-ltb}
 use Rattle.base.specs.Pick.{pick}
-use Rattle.base.proofs.Lists.{listed-at, beyond}
+use Rattle.base.proofs.Lists.{beyond}
 use Rattle.cells.specs.Sets.{noCells}
-use Rattle.cells.proofs.Members.{member-null}
 use Rattle.buffers.specs.Buffers.{emptyBuffer, pendingOf}
-use Rattle.memory.specs.Memories.{maxCells, maxMutators, maxProcesses, markOf, usedOf, noBuffer}
+use Rattle.memory.specs.Memories.{maxMutators, maxProcesses, noBuffer}
 use Rattle.state.specs.declared.Handshake.the-variants as hand
 use Rattle.state.specs.declared.Process.{Process}
 use Rattle.state.specs.declared.opening.Heap.{Heap}
 use Rattle.state.specs.Codes.{top, noStage}
 use Rattle.state.specs.States.{noProcess, processOf}
-use Rattle.state.specs.Openings.{openMark, openMarks, openMemory, openCollector, openMutator, openProcess, openSystem, rootsAt, openingOf}
+use Rattle.state.specs.Openings.{openMemory, openCollector, openMutator, openProcess, openSystem, rootsAt, openingOf}
 use Rattle.state.specs.OpeningLaws.{IsMutator, OpensSenses, OpensMarks, OpensPhase, OpensBuffers, OpensLock, OpensType, OpensInStep, OpensSystemPhase, OpensMutatorPhase, OpensFlags, OpensSystemList, OpensLists, OpensTop, OpensRow1, OpensNoted, OpensGreying, OpensNobody, OpensCounts, OpensCells, OpensRoots}
 
 -- ---- the processes
@@ -83,14 +82,8 @@ unfolding openingOf openMemory
 opens-senses h = (refl, refl)
 
 pub opens-marks : OpensMarks
-unfolding openingOf openMemory openMarks
-opens-marks h c l = go (ℕ-discrete c 0)
-  where
-    go : Dec (c ≡ 0) → markOf (openingOf h .memory) c ≡ usedOf (openingOf h .memory) c
-    go (yes z) = rw z (sym (member-null (h .used)))
-    go (no z) =
-        let e : c - 1 + 1 ≡ c = omega arith in
-        rw (ne-eqb c 0 z) (listed-at (openMark (h .used)) maxCells (c - 1) false (omega arith) ∙ rw e refl)
+unfolding openingOf openMemory
+opens-marks h c = refl
 
 pub opens-phase : OpensPhase
 unfolding openingOf openMemory

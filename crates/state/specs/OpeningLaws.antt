@@ -8,7 +8,7 @@ use Prim.Native.Nat.{ℕ, _-_, _≤_, _<_}
 use Rattle.cells.specs.Sets.{noCells}
 use Rattle.buffers.specs.declared.Phase.the-variants as phase
 use Rattle.buffers.specs.Buffers.{pendingOf}
-use Rattle.memory.specs.Memories.{maxCells, maxProcesses, usedOf, markOf, bufferOf}
+use Rattle.memory.specs.Memories.{maxProcesses, usedOf, markOf, bufferOf}
 use Rattle.state.specs.declared.Handshake.the-variants as hand
 use Rattle.state.specs.declared.RoundType.the-variants as round
 use Rattle.state.specs.declared.opening.Heap.{Heap}
@@ -29,7 +29,7 @@ OpensSenses = (h : Heap) → (openingOf h .memory .fm ≡ true) × (openingOf h 
 
 -- "all marks of occupied cells 1"; those of free cells are 0
 abbrev pub OpensMarks : Type 0
-OpensMarks = (h : Heap) (c : ℕ) → c ≤ maxCells → markOf (openingOf h .memory) c ≡ usedOf (openingOf h .memory) c
+OpensMarks = (h : Heap) (c : ℕ) → markOf (openingOf h .memory) c ≡ usedOf (openingOf h .memory) c
 
 -- "phase Idle"
 abbrev pub OpensPhase : Type 0

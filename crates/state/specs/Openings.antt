@@ -1,17 +1,16 @@
 -- "Opening: fM, fA and all marks of occupied cells 1, phase Idle, type roots, all in step, all handshake phases
 -- IdleMarkSweep, flags down, buffers and lists empty, lock free, mutators at top, collector at row 1." What belongs
 -- to no process is zero, and so is the collector's noted fM. Assumes nothing.
-use mathlib.Core.Bool.{Bool, true, false}
-use Prim.Native.Nat.{ℕ, _+_}
-use mathlib.Core.List.{List, [], _∷_}
+use mathlib.Core.Bool.{true, false}
+use Prim.Native.Nat.{ℕ}
+use mathlib.Core.List.{[], _∷_}
 use lib.Dec.{ltb}
 use lib.ListN.{getD, replicate}
-use Rattle.base.specs.Pick.{pick, listed}
-use Rattle.cells.specs.Sets.{memberOf}
+use Rattle.base.specs.Pick.{pick}
 use Rattle.buffers.specs.declared.Phase.the-variants as phase
 use Rattle.buffers.specs.Buffers.{emptyBuffer}
 use Rattle.memory.specs.declared.Memory.{Memory}
-use Rattle.memory.specs.Memories.{maxCells, maxProcesses}
+use Rattle.memory.specs.Memories.{maxProcesses}
 use Rattle.state.specs.declared.Handshake.the-variants as hand
 use Rattle.state.specs.declared.RoundType.the-variants as round
 use Rattle.state.specs.declared.Process.{Process}
@@ -21,16 +20,10 @@ use Rattle.state.specs.declared.opening.Heap.{Heap}
 use Rattle.state.specs.Codes.{row1Round, fenceStage}
 use Rattle.state.specs.States.{noProcess, at, listing, shaking}
 
--- "all marks of occupied cells 1": the mark of the cell i + 1
-abbrev pub openMark : ℕ → ℕ → Bool
-openMark used i = memberOf used (i + 1)
-
-unfoldable pub openMarks : ℕ → List Bool
-openMarks used = listed maxCells (openMark used)
-
+-- "fM, fA and all marks of occupied cells 1, phase Idle, .. buffers .. empty, lock free"
 unfoldable pub openMemory : Heap → Memory
 openMemory h =
-    record { cells = h .cells; processes = h .processes; used = h .used; marks = openMarks (h .used); field0 = h .field0; field1 = h .field1; fm = true; fa = true; phase = record { phase = phase.Idle }; lock = 0; buffers = replicate maxProcesses emptyBuffer }
+    record { cells = h .cells; processes = h .processes; used = h .used; marks = h .used; field0 = h .field0; field1 = h .field1; fm = true; fa = true; phase = record { phase = phase.Idle }; lock = 0; buffers = replicate maxProcesses emptyBuffer }
 
 -- "collector at row 1"
 unfoldable pub openCollector : Process

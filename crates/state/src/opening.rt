@@ -12,7 +12,7 @@ use buffers::Phase;
 use memory::Memory;
 use memory::PhaseWord;
 ghost use mathlib.Core.Path.{_≡_};
-ghost use Rattle.state.specs.Openings.{openMarks, openMemory, openCollector, openMutator, openProcess, openSystem, openingOf};
+ghost use Rattle.state.specs.Openings.{openMemory, openCollector, openMutator, openProcess, openSystem, openingOf};
 
 // An opening heap: N, the number of processes M + 1, the occupied cells, their fields, and each mutator's roots,
 // mutator 1 first.
@@ -25,25 +25,11 @@ pub struct Heap {
     pub roots: [u64; State::ROOT_SETS],
 }
 
-// "all marks of occupied cells 1"
-fn marks(used: u64) -> [bool; Memory::CELLS]
-    ensures { λ r. ⌜ r ≡ openMarks used ⌝ }
-{
-    let mut marks = [false; Memory::CELLS];
-    let mut i = 0;
-    while i < Memory::CELLS {
-        marks[i] = cells::member(used, (i + 1) as u8);
-        i += 1;
-    }
-    marks
-}
-
 // "fM, fA and all marks of occupied cells 1, phase Idle, .. buffers .. empty, lock free"
 fn memory(h: Heap) -> Memory
     ensures { λ r. ⌜ r ≡ openMemory h ⌝ }
 {
     let b = Buffer::empty();
-    let marks = marks(h.used);
     let field0 = h.field0;
     let field1 = h.field1;
     let phase = PhaseWord { phase: Phase::Idle };
@@ -52,7 +38,7 @@ fn memory(h: Heap) -> Memory
         cells: h.cells,
         processes: h.processes,
         used: h.used,
-        marks,
+        marks: h.used,
         field0,
         field1,
         fm: true,

@@ -94,10 +94,8 @@ fn slot(cell: u8) -> usize {
     (cell - 1) as usize
 }
 
-fn marked(mut m: Memory, i: usize) -> Memory {
-    if i < Memory::CELLS {
-        m.marks[i] = true;
-    }
+fn marked(mut m: Memory, c: u8) -> Memory {
+    m.marks = cells::add(m.marks, c);
     m
 }
 
@@ -118,7 +116,7 @@ fn in_cells(mut m: Memory, a: Change) -> Memory {
     match letter {
         b'l' => m.lock = a.v as u16,
         b'u' => m.used = n as u64,
-        b'k' => return marked(m, slot(n)),
+        b'k' => return marked(m, n),
         b'd' => return field(m, a.p, slot(n), a.v),
         _ => {}
     }

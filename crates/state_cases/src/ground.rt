@@ -1,13 +1,14 @@
 // The states that the cases start from, and whether a state is well formed.
+use memory::Memory;
 use state::Process;
 use state::State;
 use state::opening::Heap;
 
 // Three cells, of which 1 and 2 are occupied and cell 1 names cell 2; two mutators, of which the first has the root 1.
 pub(crate) fn ground() -> State {
-    let mut field0 = [0; 32];
+    let mut field0 = [0; Memory::CELLS];
     field0[0] = 2;
-    let field1 = [0; 32];
+    let field1 = [0; Memory::CELLS];
     let roots = [1, 0, 0, 0];
     State::opening(Heap {
         cells: 3,
@@ -29,8 +30,8 @@ pub(crate) fn answer(s: State) {
 
 // A heap with no cell occupied and no roots.
 pub(crate) fn bare(cells: u8, processes: u8) -> State {
-    let field0 = [0; 32];
-    let field1 = [0; 32];
+    let field0 = [0; Memory::CELLS];
+    let field1 = [0; Memory::CELLS];
     let roots = [0; 4];
     State::opening(Heap {
         cells,

@@ -6,6 +6,7 @@
 mod names;
 
 use header::bytes::byte;
+use memory::Memory;
 use script::digit;
 use script::rest;
 use state::Choice;
@@ -16,8 +17,8 @@ use state::opening::Heap;
 // Four cells: 1 has cell 2 in its field 0 and is the root of both mutators; 3 is free; 4 names 1 and nothing leads to
 // it.
 fn heap() -> Heap {
-    let mut field0 = [0u8; 32];
-    let field1 = [0u8; 32];
+    let mut field0 = [0u8; Memory::CELLS];
+    let field1 = [0u8; Memory::CELLS];
     field0[0] = 2;
     field0[3] = 1;
     let roots = [1, 1, 0, 0];

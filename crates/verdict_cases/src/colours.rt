@@ -6,18 +6,16 @@ use memory::Memory;
 use state::State;
 use state::System;
 
-// Memory with the cell at i of the arrays white: its mark is not fM.
-fn whitened(m: Memory, i: usize) -> Memory {
+// Memory with the cell c white: its mark is not fM.
+fn whitened(m: Memory, c: u8) -> Memory {
     let mut n = m;
-    if i < 32 {
-        n.marks[i] = false;
-    }
+    n.marks = cells::remove(n.marks, c);
     n
 }
 
 // Cell 2 is white, and 1 names it.
 pub(crate) fn white_two() -> State {
-    ground::with_memory(whitened(ground::memory(), 1))
+    ground::with_memory(whitened(ground::memory(), 2))
 }
 
 pub(crate) fn all() {
@@ -26,17 +24,17 @@ pub(crate) fn all() {
     // the black cell 1 has a second field naming 3
     ground::say(
         b"white in a second field",
-        ground::with_memory(whitened(ground::memory(), 2)),
+        ground::with_memory(whitened(ground::memory(), 3)),
     );
     // 4 is white: 2 names it, and the black cell is 2
-    let four = whitened(ground::memory(), 3);
+    let four = whitened(ground::memory(), 4);
     ground::say(b"white of cell 2", ground::with_memory(four));
     // 3 and 4 are white, named by the black cells 1 and 2: "the least such .. black cell"
-    ground::say(b"two black cells", ground::with_memory(whitened(four, 2)));
+    ground::say(b"two black cells", ground::with_memory(whitened(four, 3)));
     // 2 and 4 are white: 2 names 4, but is not black; 1 is, and names 2
-    ground::say(b"white names white", ground::with_memory(whitened(four, 1)));
+    ground::say(b"white names white", ground::with_memory(whitened(four, 2)));
     // 1 is white itself: no black cell names it
-    let one = whitened(ground::memory(), 0);
+    let one = whitened(ground::memory(), 1);
     ground::say(b"white names black", ground::with_memory(one));
     // fM is 0: every cell is white, and none is black
     let mut flipped = ground::memory();

@@ -12,9 +12,9 @@ use state::opening::Heap;
 // the second none.
 // Every mark is fM, so all four are black; nothing is white. Verdict 0.
 pub(crate) fn ground() -> State {
-    let mut field0 = [0; 32];
+    let mut field0 = [0; Memory::CELLS];
     field0[0] = 2;
-    let mut field1 = [0; 32];
+    let mut field1 = [0; Memory::CELLS];
     field1[0] = 3;
     field1[1] = 4;
     let roots = [1, 0, 0, 0];

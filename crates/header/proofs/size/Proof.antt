@@ -5,7 +5,7 @@ use Rattle.header.proofs.size.Statement.{statement}
 use Rattle.header.proofs.size.Tie as tie
 
 returns : tie.Need-returns
-returns c = rw (← c .before .before .byte .ensures, ← c .before .byte2 .ensures, ← c .roots-place .ensures) (search (needs, picks) depth 16)
+returns c = rw (← c .before .before .before .byte .ensures, ← c .before .before .byte2 .ensures, ← c .before .roots-size .ensures, ← c .roots-place .ensures) (search (needs, picks) depth 16)
 
 pub size-spec : {M : Type 1} → statement M
-size-spec = tie.close (tie.spec (search needs) (search needs) (search needs) returns)
+size-spec = tie.close (tie.spec (search needs) (search needs) (search needs) (search needs) returns)

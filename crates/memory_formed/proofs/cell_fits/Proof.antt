@@ -11,15 +11,11 @@ returns c = search (needs, picks, c .if1 .taken, c .before .is-used .ensures) de
 
 returns-2 : tie.Need-returns-2
 unfolding cellFitsOf
-returns-2 c = search (needs, picks, c .if2 .taken, c .before .mark .ensures, c .before .before .if1 .left, c .before .before .before .is-used .ensures) depth 16
+returns-2 c = rw (← c .before .before .field .ensures, ← c .field2 .ensures) (search (needs, picks, c .before .if2 .taken, c .before .before .before .if1 .left, c .before .before .before .before .is-used .ensures) depth 16)
 
 returns-3 : tie.Need-returns-3
 unfolding cellFitsOf
-returns-3 c = rw (← c .before .before .field .ensures, ← c .field2 .ensures) (search (needs, picks, c .before .if3 .taken, c .before .before .before .if2 .left, c .before .before .before .before .mark .ensures, c .before .before .before .before .before .if1 .left, c .before .before .before .before .before .before .is-used .ensures) depth 16)
-
-returns-4 : tie.Need-returns-4
-unfolding cellFitsOf
-returns-4 c = rw (← c .before .field .ensures) (search (needs, picks, c .if3 .left, c .before .before .if2 .left, c .before .before .before .mark .ensures, c .before .before .before .before .if1 .left, c .before .before .before .before .before .is-used .ensures) depth 16)
+returns-3 c = rw (← c .before .field .ensures) (search (needs, picks, c .if2 .left, c .before .before .if1 .left, c .before .before .before .is-used .ensures) depth 16)
 
 pub cell-fits-spec : {M : Type 1} → statement M
-cell-fits-spec = tie.close (tie.spec (search needs) returns (search needs) returns-2 (search needs) (search needs) returns-3 returns-4)
+cell-fits-spec = tie.close (tie.spec (search needs) returns (search needs) (search needs) returns-2 returns-3)

@@ -13,11 +13,10 @@ returns : tie.Need-returns
 unfolding memoryFormedOf sizedOf
 returns c =
     let m = c .before .args .m in
-    let x : length (m .marks) ≡ maxCells = search (needs, carried) in
     let y : length (m .field0) ≡ maxCells = search (needs, carried) in
     let z : length (m .field1) ≡ maxCells = search (needs, carried) in
     let t : length (m .buffers) ≡ maxProcesses = search (needs, carried) in
-    rw (eq-eqb _ _ x, eq-eqb _ _ y, eq-eqb _ _ z, eq-eqb _ _ t) (c .fits2 .ensures)
+    rw (eq-eqb _ _ y, eq-eqb _ _ z, eq-eqb _ _ t) (c .fits2 .ensures)
 
 pub well-formed-spec : {M : Type 1} → statement M
 well-formed-spec = tie.close (tie.spec (search needs) returns)

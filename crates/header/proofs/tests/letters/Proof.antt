@@ -19,7 +19,7 @@ returns-3 c = rw (← c .before .before .before .before .before .byte .ensures, 
 
 returns-4 : tie.Need-returns-4
 unfolding lettersOf
-returns-4 c = rw (← c .before .before .before .before .before .before .byte .ensures, ← c .before .before .before .before .byte2 .ensures, ← c .before .before .byte3 .ensures, ← c .pair .ensures) (search (needs, picks, c .before .if3 .left, c .before .before .before .if2 .left, c .before .before .before .before .before .if1 .left) depth 16)
+returns-4 c = rw (← c .before .before .before .before .before .before .before .byte .ensures, ← c .before .before .before .before .before .byte2 .ensures, ← c .before .before .before .byte3 .ensures, ← c .before .pair .ensures, ← c .is-version .ensures) (search (needs, picks, c .before .before .if3 .left, c .before .before .before .before .if2 .left, c .before .before .before .before .before .before .if1 .left) depth 16)
 
 pub letters-spec : {M : Type 1} → statement M
-letters-spec = tie.close (tie.spec (search needs) returns (search needs) returns-2 (search needs) returns-3 (search needs) returns-4)
+letters-spec = tie.close (tie.spec (search needs) returns (search needs) returns-2 (search needs) returns-3 (search needs) (search needs) returns-4)

@@ -6,7 +6,7 @@ use Rattle.state.proofs.opening.memory.Tie as tie
 
 returns : tie.Need-returns
 unfolding openMemory
-returns c = rw (← c .before .before .before .empty .ensures, ← c .before .before .marks .ensures) (search (needs, picks) depth 16)
+returns c = rw (← c .before .before .empty .ensures) (search (needs, picks) depth 16)
 
 pub memory-spec : {M : Type 1} → statement M
-memory-spec = tie.close (tie.spec (search needs) (search needs) returns)
+memory-spec = tie.close (tie.spec (search needs) returns)
