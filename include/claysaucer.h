@@ -45,7 +45,8 @@ uint64_t claysaucer_judge(const uint8_t *log, size_t length);
 
 /*
  * The stops. 2 to 11 are the refusals of a record. Refusal 1, a malformed
- * state, is not among them: no log leads to one.
+ * state, is not among them: no log leads to one. Nor does a log lead to 11,
+ * or to verdicts 1 to 3: proved.
  */
 #define CLAYSAUCER_STOP_ENDED 0         /* no record is left */
 #define CLAYSAUCER_STOP_NO_PROCESS 2    /* the process is above M */

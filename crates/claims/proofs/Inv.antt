@@ -35,7 +35,7 @@ opening-inv h f =
       noted = opening-noted h f;
     }
 
-row-inv : (s : State) (c : Choice) (t : State) → Inv s → Row s c t → Inv t
+pub row-inv : (s : State) (c : Choice) (t : State) → Inv s → Row s c t → Inv t
 row-inv s c t v r =
     let w = v .formed in
     record {

@@ -11,6 +11,7 @@ pub mod Flags
 pub mod Answering
 pub mod Handshakes
 pub mod Written
+pub mod Rules
 pub mod Senses
 pub mod Noted
 pub mod Inv

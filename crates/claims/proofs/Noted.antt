@@ -1,5 +1,6 @@
 -- Whoever holds the lock has noted the mark sense that stands in memory. Assumes nothing.
 --     mark-noted, mutator-noted      the steps of the mutator itself
+--     misses, sees-phase             what a mutator has pending hides neither fM nor the phase from it
 --     sense-moves                    memory's fM stays, or every mutator's handshake phase is Idle
 --     opening-noted, step-noted      at the opening, and after each step
 --     holder-noted                   so the holder of the lock has noted it
@@ -89,11 +90,11 @@ branch-early Branch.work i = (refl, refl)
 
 -- ---- a mutator reads fM and the phase from memory: neither waits in its buffer
 -- a mark or a field misses every spot of a kind past theirs
-misses : (a : Spot) {v : Store} → kindOf (spot.Field 0 0) < kindOf a → MarkOrField v → hitsOf a v ≡ false
+pub misses : (a : Spot) {v : Store} → kindOf (spot.Field 0 0) < kindOf a → MarkOrField v → hitsOf a v ≡ false
 misses a l (MarkOrField.mark {c} {b}) = hits-apart kindOf a (store.Mark c b) (λ e. omega arith)
 misses a l (MarkOrField.field {c} {f} {v}) = hits-apart kindOf a (store.Field c f v) (λ e. omega arith)
 
-sees-phase : (m : Memory) (p : ℕ) {h : Phase} → MarksAndFields (pendingFor m p) → lookPhaseOf m p ≡ seesPhase h → h ≡ m .phase .phase
+pub sees-phase : (m : Memory) (p : ℕ) {h : Phase} → MarksAndFields (pendingFor m p) → lookPhaseOf m p ≡ seesPhase h → h ≡ m .phase .phase
 sees-phase m p f e =
     let k = look-phase-taken m p (ap (λ (i : SeenPhase). i .no) e) in
     let g = view-misses m p spot.Phase (λ x i. misses spot.Phase (omega arith) (f x i)) in

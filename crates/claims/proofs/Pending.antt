@@ -2,6 +2,9 @@
 -- fields pending. Assumes nothing.
 --     opening-marks, step-marks                   MarksWait at the opening, and after each step
 --     opening-mutator-stores, step-mutator-stores     MutatorStores likewise
+--     others-pending                              what another has pending stays
+--     none-waits                                  at the opening nothing waits
+--     unlock-inside                               the unlock is inside the compare and swap
 --     marks-locked                                with the lock's law: under the lock, and one in all buffers
 use mathlib.Core.Path.{_≡_, refl, sym, ap, _∙_, subst}
 use mathlib.Core.Bool.{Bool, true, false}
@@ -69,7 +72,7 @@ outer-others : {p : ℕ} {m n : Memory} (x : ℕ) → Shaped m → (x ≡ p → 
 outer-others x z ne (Outer.quiet k) = k .pending x
 outer-others {p} x z ne (Outer.writes {v} k h e) = write-taken p (record { store = v }) z e .others x ne
 
-others-pending : {p : ℕ} {q o : Process} {m n : Memory} (x : ℕ) → Shaped m → (x ≡ p → ⊥) → Goes p q m o n → pendingFor n x ≡ pendingFor m x
+pub others-pending : {p : ℕ} {q o : Process} {m n : Memory} (x : ℕ) → Shaped m → (x ≡ p → ⊥) → Goes p q m o n → pendingFor n x ≡ pendingFor m x
 others-pending {p} x z ne (Goes.locks a b e) = lock-taken p e .after .pending x
 others-pending x z ne (Goes.looks a u b) = refl
 others-pending {p} x z ne (Goes.writes a u b v r d e) = write-taken p _ z e .others x ne
@@ -118,7 +121,7 @@ goes-stores z pos f (Goes.outside a b e) = outer-stores z pos f e
 goes-stores {p} z pos f (Goes.commits e) = let k = commit-taken p z e in same-allowed (k .own) (λ x i. f x (rw (k .before) (List·Memᴰ·tail i)))
 
 -- ---- the opening
-none-waits : (h : Heap) (p : ℕ) → waitingOf (openingOf h) p ≡ []
+pub none-waits : (h : Heap) (p : ℕ) → waitingOf (openingOf h) p ≡ []
 unfolding openingOf openMemory
 none-waits h zero = refl
 none-waits h (suc zero) = refl
@@ -159,7 +162,7 @@ module _ (s : State) (c : Choice) {t : State} (w : WellFormed s) where
   step-mutator-stores k r p pos = rw (← pending-is (t .memory) p) (stores-at (λ x l. rw (pending-is (s .memory) x) (k x l)) r p pos (ℕ-discrete p (c .process)))
 
 -- ---- under the lock: the unlock is inside
-unlock-inside : (q : Process) → Unlocking q → Inside q
+pub unlock-inside : (q : Process) → Unlocking q → Inside q
 unlock-inside q u = ⊎-elim (λ i. i) (λ i. absurd (not-both u (outside-unlocking (q .place) (q .stage) i))) (split (insideOf q))
 
 pub marks-locked : (s : State) → Lock s → MarksWait s → MarksLocked s

@@ -1,5 +1,4 @@
 -- What the collector's place tells of the handshakes and of memory together. Assumes nothing.
---     ruled           a rule over places and stages, computed, holds where the collector stands
 --     flip-idle       while fM waits in the collector's buffer every mutator's handshake phase is Idle
 --     idle-phase      while a mutator's handshake phase is Idle, so is memory's phase
 --     scan-sense      inside its compare and swap the collector has noted memory's fM
@@ -25,48 +24,21 @@ use Rattle.state.specs.declared.RoundType.{RoundType}
 use Rattle.state.specs.declared.Part.{Part}
 use Rattle.state.specs.declared.Process.{Process}
 use Rattle.state.specs.declared.State.{State}
-use Rattle.state.specs.Codes.{row1Round, row2Read, row2Write, row3Round, row4Write, row4Round, row5Phase, row5Alloc, row5Round, row6Round, row6Take, row7First, row7Mark, row7Next, row7Drop, row8Round, row8Take, row9Write, row10Look, row10Free, row11Write}
 use Rattle.state.specs.States.{mutatorsOf, processOf}
-use Rattle.formed.specs.Fits.{amongOf, Among, plainPlaces, roundPlaces, CollectorAt, WellFormed}
-use Rattle.formed.proofs.Places.{AllBelow, all-below, allOf, all-true}
+use Rattle.formed.specs.Fits.{WellFormed}
 use Rattle.verdict.specs.Table.{InTable}
 use Rattle.claims.specs.Lock.{insideAt, Inside}
 use Rattle.claims.specs.Posted.{postedOf, busyOf}
 use Rattle.claims.specs.Flags.{Flagged}
 use Rattle.claims.specs.Handshakes.{Handshakes}
 use Rattle.claims.specs.Written.{Stretch, Moment, stretchOf, momentOf, entryFor, Wrote, CollectorWrote}
+use Rattle.claims.proofs.Rules.{Checked, ruled}
 use Rattle.claims.proofs.Flags.{settled}
 use Rattle.claims.proofs.Answering.{implied}
 use Rattle.claims.proofs.Handshakes.{settled-handshakes}
 
--- ---- the collector's places and stages
-abbrev collectorPlaces : List ℕ
-collectorPlaces =
-    row1Round ∷ row2Read ∷ row2Write ∷ row3Round ∷ row4Write ∷ row4Round ∷ row5Phase ∷ row5Alloc ∷ row5Round ∷ row6Round ∷ row6Take ∷ row7First ∷ row7Mark ∷ row7Next ∷ row7Drop ∷ row8Round ∷ row8Take ∷ row9Write ∷ row10Look ∷ row10Free ∷ row11Write ∷ []
-
-abbrev stages : ℕ
-stages = 8
-
-stands : (n m : ℕ) (q : Process) → CollectorAt n m q → Among (q .place) collectorPlaces × (q .stage < stages)
-stands n m q (CollectorAt.plain a w) = (all-true (λ k. amongOf k collectorPlaces) plainPlaces refl (q .place) a, omega (arith, w .stage))
-stands n m q (CollectorAt.round a w) = (all-true (λ k. amongOf k collectorPlaces) roundPlaces refl (q .place) a, omega (arith, w .running))
-stands n m q (CollectorAt.scan-mark a w) = (rw a refl, omega (arith, w .mark .running))
-stands n m q (CollectorAt.scan a w) = (rw a refl, omega (arith, w .stage))
-stands n m q (CollectorAt.drop a w) = (rw a refl, omega (arith, w .stage))
-stands n m q (CollectorAt.sweep a w) = (rw a refl, omega (arith, w .stage))
-stands n m q (CollectorAt.sweep-free a w) = (rw a refl, omega (arith, w .stage))
-
-abbrev Checked : (ℕ → ℕ → Bool) → Type 0
-Checked t = AllBelow (λ j. allOf (λ k. t k j) collectorPlaces ≡ true) stages
-
-ruled : (t : ℕ → ℕ → Bool) → Checked t → (s : State) → WellFormed s → t (processOf s 0 .place) (processOf s 0 .stage) ≡ true
-ruled t c s w =
-    let q = processOf s 0 in
-    let a = stands (s .memory .cells) (mutatorsOf s) q (w .collector .notes) in
-    all-true (λ k. t k (q .stage)) collectorPlaces (all-below (λ j. allOf (λ k. t k j) collectorPlaces ≡ true) stages c (q .stage) (a .1)) (q .place) (a .0)
-
 -- ---- handshake phases
-abbrev idleOf : Handshake → Bool
+abbrev pub idleOf : Handshake → Bool
 idleOf hand.Idle = true
 idleOf hand.IdleInit = false
 idleOf hand.InitMark = false
@@ -80,7 +52,7 @@ idleInitOf hand.InitMark = false
 idleInitOf hand.Mark = false
 idleInitOf hand.IdleMarkSweep = false
 
-is-idle : (h : Handshake) → idleOf h ≡ true → h ≡ hand.Idle
+pub is-idle : (h : Handshake) → idleOf h ≡ true → h ≡ hand.Idle
 is-idle hand.Idle e = refl
 is-idle hand.IdleInit e = absurd (false≢true e)
 is-idle hand.InitMark e = absurd (false≢true e)

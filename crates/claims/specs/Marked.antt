@@ -126,6 +126,6 @@ pub record BothIdle (s : State) : Type 0 where
   pub mutator : processOf s 1 .part .phase ≡ hand.Idle
 
 -- every case of the table gives its three numbers, and case 11 ends with both phases Idle
-pub record Marked : Type 0 where
+pub record MarkedLogs : Type 0 where
   pub numbers : Forall (λ c. judgeOf (c .log) ≡ c .outcome) table
   pub idle : BothIdle (ranOf (base ++ round) .state)

@@ -90,7 +90,7 @@ const TABLE: [u8; 879] = *b"\
         \x00\x00\x00\x00\x00\x00\x00\x00\x00\x00\x00\x00\x00\x00\x00\x00\x00\x00\x00\x00\x00\x00\x00\x00\x00\x00\x00\x00\x00\x00\x00\x00\x00\
         \x00\x00\x00\x00\x00\x00\x00\x00";
 
-// The table: it is the one that `Marked` is proved of.
+// The table: it is the one that `MarkedLogs` is proved of.
 pub(crate) fn marked() -> [u8; 879]
     ensures { λ r. ⌜ r ≡ tableBytes table ⌝ }
 {

@@ -1,0 +1,3 @@
+pub mod Sound
+pub mod Never
+pub mod Published

@@ -1,0 +1,1 @@
+// No live cell is handed back.

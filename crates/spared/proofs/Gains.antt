@@ -1,0 +1,143 @@
+-- What is held after a step. Assumes nothing.
+--     held-was     it was held, is named by a field of what was held, or is new (L12)
+use mathlib.Core.Path.{_≡_, refl, sym, ap, subst, _∙_}
+use mathlib.Core.Bool.{true, false≢true}
+use mathlib.Core.List.{List, List·Memᴰ·append-cases, List·Memᴰ·eq-of-singleton}
+use mathlib.Core.Logic.{_⊎_, inl, inr, ⊎-elim}
+use Prim.Native.Nat.{ℕ, _≤_, _<_}
+use native.Mathlib.Omega.{arith}
+use native.Mathlib.Decide.{ℕ-discrete}
+use Rattle.cells.specs.Sets.{Member}
+use Rattle.cells.proofs.Members.{member-pos, in-add, in-remove}
+use Rattle.buffers.specs.declared.Store.the-variants as store
+use Rattle.buffers.specs.declared.Entry.{Entry}
+use Rattle.buffers.specs.Fits.{maxFields}
+use Rattle.memory.specs.declared.Memory.{Memory}
+use Rattle.memory.specs.Memories.{usedOf, markOf}
+use Rattle.memory.specs.Looks.{lookFieldOf}
+use Rattle.memory.proofs.Effects.{allocate-taken}
+use Rattle.memory_formed.proofs.Shapes.{shaped}
+use Rattle.state.specs.declared.Process.{Process}
+use Rattle.state.specs.declared.State.{State}
+use Rattle.state.specs.declared.Choice.{Choice}
+use Rattle.state.specs.Codes.{top, storeWrite, noStage}
+use Rattle.state.specs.States.{mutatorsOf, processOf}
+use Rattle.formed.specs.Fits.{WellFormed}
+use Rattle.formed.proofs.Gives.{collector-within}
+use Rattle.model.specs.Rows.{At, seesValue, Marks, Mutator, Row}
+use Rattle.model.specs.Reasons.{mover}
+use Rattle.stays_formed.specs.Leaves.{Writes}
+use Rattle.stays_formed.proofs.Frames.{named}
+use Rattle.claims.specs.Pending.{waitingOf}
+use Rattle.claims.proofs.Moves.{marks-place}
+use Rattle.spared.specs.Holds.{StoreIn, FieldIn, HeldBy, HeldAt}
+use Rattle.spared.specs.Views.{Fills, Grips, Aside}
+use Rattle.spared.specs.Inv.{Spared}
+use Rattle.spared.specs.Lemmas.{Gained, HeldWas}
+use Rattle.spared.proofs.Fills.{row-fills, row-waits}
+use Rattle.spared.proofs.Grips.{row-grips}
+use Rattle.spared.proofs.Paces.{row-aside}
+use Rattle.spared.proofs.Sights.{look-field}
+use Rattle.spared.proofs.Names.{names-by}
+
+-- ---- the cell that is allocated
+abbrev New : State → Choice → State → Type 0
+New s c t = (usedOf (t .memory) (c .x) ≡ true) × (markOf (t .memory) (c .x) ≡ s .memory .fa)
+
+not-top : {q : Process} {r : ℕ} → Marks q r → At top noStage q → ⊥
+not-top i a = false≢true (rw (a .place) at (marks-place i))
+
+module _ (s : State) (c : Choice) (w : WellFormed s) (p : ℕ) (q : Process) where
+  mutator-made : {t : State} → Mutator s c p q t → At top noStage q → c .op ≡ 0 → New s c t
+  mutator-made (Mutator.allocates a o x l g y e) b z = let k = allocate-taken p (c .x) (shaped (s .memory) (w .memory)) x (omega (arith, l, w .memory .few-cells)) e .after in (k .used, k .mark)
+  mutator-made (Mutator.drops a o m g y) b z = absurd (omega arith)
+  mutator-made (Mutator.reads a o m g y e h) b z = absurd (omega arith)
+  mutator-made (Mutator.reads-null a o m g y e) b z = absurd (omega arith)
+  mutator-made (Mutator.stores a o m g y e h) b z = absurd (omega arith)
+  mutator-made (Mutator.stores-new a o m g y e) b z = absurd (omega arith)
+  mutator-made (Mutator.stores-null a o m g y e) b z = absurd (omega arith)
+  mutator-made (Mutator.fences a o x g y e) b z = absurd (omega arith)
+  mutator-made (Mutator.answers a o x g y u k) b z = absurd (omega arith)
+  mutator-made (Mutator.marks k i h e) b z = absurd (not-top i b)
+  mutator-made (Mutator.looks-root a o m e) b z = absurd (omega (arith, a .place, b .place))
+  mutator-made (Mutator.writes a k e) b z = absurd (omega (arith, a .place, b .place))
+  mutator-made (Mutator.fences-noop a k e) b z = absurd (omega (arith, a .place, b .place))
+  mutator-made (Mutator.fences-work a k e) b z = absurd (omega (arith, a .place, b .place))
+  mutator-made (Mutator.fences-roots a k e h) b z = absurd (omega (arith, a .place, b .place))
+  mutator-made (Mutator.fences-none a k e h) b z = absurd (omega (arith, a .place, b .place))
+  mutator-made (Mutator.finishes-noop a k) b z = absurd (omega (arith, a .place, b .place))
+  mutator-made (Mutator.finishes-roots a k) b z = absurd (omega (arith, a .place, b .place))
+  mutator-made (Mutator.finishes-work a k) b z = absurd (omega (arith, a .place, b .place))
+
+made : (s : State) (c : Choice) {t : State} → WellFormed s → Row s c t → At top noStage (mover s c) → c .op ≡ 0 → 0 < c .x → New s c t
+made s c {t} w (Row.collector k e r) a z n = named (λ i. At top noStage (processOf s i) → New s c t) e (λ b. absurd (omega (arith, collector-within (w .collector) .0, b .place))) a
+made s c {t} w (Row.mutator k {p} e pos mine r) a z n = named (λ i. At top noStage (processOf s i) → New s c t) e (λ b. mutator-made s c w p (processOf s p) r b z) a
+made s c w (Row.commits k e mine b h) a z n = absurd (omega (arith, b .x))
+
+-- ---- a process whose roots, old value and pending stores stay
+still : {q o : Process} {l k : List Entry} {d : ℕ} → o .roots ≡ q .roots → o .old ≡ q .old → k ≡ l → HeldBy o k d → HeldBy q l d
+still e f g (HeldBy.root i) = HeldBy.root (rw e at i)
+still e f g (HeldBy.honorary z n) = HeldBy.honorary (sym f ∙ z) n
+still e f g (HeldBy.target x y i) = HeldBy.target x y (rw g at i)
+still e f g (HeldBy.value x y i n) = HeldBy.value x y (rw g at i) n
+
+aside-held : {o u : Process} {l k : List Entry} {d : ℕ} → Aside o u → k ≡ l → HeldBy u k d → HeldBy o l d
+aside-held (Aside.aside r i e) = still (ap (λ (q : Process). q .roots) e) (ap (λ (q : Process). q .old) e)
+
+-- ---- the pending stores of the process that steps
+field-writes : {q : Process} {x f y : ℕ} → Writes q (store.Field x f y) → At storeWrite noStage q × ((q .x ≡ x) × (q .y ≡ y))
+field-writes (Writes.field a) = (a, (refl, refl))
+
+-- a field store was pending, or is written now
+was-pending : {c : Choice} {q : Process} {n : Memory} {l k : List Entry} {x f y : ℕ} → Fills c q n l k → FieldIn k x f y → (FieldIn l x f y) ⊎ (At storeWrite noStage q × ((q .x ≡ x) × (q .y ≡ y)))
+was-pending (Fills.keeps e) i = inl (rw e at i)
+was-pending {q = q} {l = l} (Fills.appends z w e) (StoreIn.pends d i g) =
+    ⊎-elim (λ j. inl (StoreIn.pends d j g)) (λ j. inr (field-writes (subst (Writes q) (ap (λ (h : Entry). h .store) (sym (List·Memᴰ·eq-of-singleton j)) ∙ g) w))) (List·Memᴰ·append-cases l (rw e at i))
+was-pending (Fills.leaves z e i f m a) (StoreIn.pends d j g) = inl (StoreIn.pends d (f d j) g)
+
+-- ---- the process that steps
+module _ (s t : State) (c : Choice) (v : Spared s) (r : Row s c t) (pos : 0 < c .process) (mine : c .process ≤ mutatorsOf s) where
+  -- a field of a root is read: it sees memory's value, or one that is pending
+  seen : (x f w d : ℕ) → Member (mover s c .roots) x → f < maxFields → lookFieldOf (s .memory) (c .process) x f ≡ seesValue w → w ≡ d → 0 < d → Gained s t (c .process) d
+  seen x f w d i l e z n =
+      ⊎-elim (λ h. Gained.named x (HeldBy.root i) (names-by (s .memory) x d f l (sym h ∙ z) n)) (λ h. Gained.was (HeldBy.value x f (subst (FieldIn (waitingOf s (c .process)) x f) z h) n))
+      (look-field s (c .process) x f w l e)
+
+  roots-were : {o : Process} → Grips s c (c .process) (mover s c) o → (d : ℕ) → Member (o .roots) d → 0 < d → Gained s t (c .process) d
+  roots-were (Grips.keeps e f) d i n = Gained.was (HeldBy.root (rw e at i))
+  roots-were (Grips.allocates a z u e f) d i n = ⊎-elim (λ j. Gained.was (HeldBy.root j)) (λ j. subst (Gained s t (c .process)) j (new (made s c (v .inv .formed) r a z (omega arith)))) (in-add (mover s c .roots) (c .x) d (rw e at i))
+    where
+      new : New s c t → Gained s t (c .process) (c .x)
+      new h = Gained.fresh (h .0) (h .1)
+  roots-were (Grips.drops a e f) d i n = Gained.was (HeldBy.root (in-remove (mover s c .roots) (c .x) d (rw e at i) .0))
+  roots-were (Grips.reads a j l {v = w} g e f) d i n = ⊎-elim (λ k. Gained.was (HeldBy.root k)) (λ k. seen (c .x) (c .f) w d j l g k n) (in-add (mover s c .roots) w d (rw e at i))
+  roots-were (Grips.stores a j l g e f) d i n = Gained.was (HeldBy.root (rw e at i))
+  roots-were (Grips.writes a e f) d i n = Gained.was (HeldBy.root (rw e at i))
+
+  old-was : {o : Process} → Grips s c (c .process) (mover s c) o → (d : ℕ) → o .old ≡ d → 0 < d → Gained s t (c .process) d
+  old-was (Grips.keeps e f) d i n = Gained.was (HeldBy.honorary (sym f ∙ i) n)
+  old-was (Grips.allocates a z u e f) d i n = Gained.was (HeldBy.honorary (sym f ∙ i) n)
+  old-was (Grips.drops a e f) d i n = Gained.was (HeldBy.honorary (sym f ∙ i) n)
+  old-was (Grips.reads a j l g e f) d i n = Gained.was (HeldBy.honorary (sym f ∙ i) n)
+  old-was (Grips.stores a j l {v = w} g e f) d i n = seen (c .x) (c .f) w d j l g (sym f ∙ i) n
+  old-was (Grips.writes a e f) d i n = absurd (omega arith)
+
+  -- what is written is a root, into a root
+  target-was : (d : ℕ) → At storeWrite noStage (mover s c) → mover s c .x ≡ d → Gained s t (c .process) d
+  target-was d a e = Gained.was (HeldBy.root (subst (Member (mover s c .roots)) e (v .notes (c .process) pos mine .x (rw (a .place) refl))))
+
+  value-was : (d : ℕ) → 0 < d → At storeWrite noStage (mover s c) → mover s c .y ≡ d → Gained s t (c .process) d
+  value-was d n a e = ⊎-elim (λ z. absurd (omega arith)) (λ i. Gained.was (HeldBy.root (subst (Member (mover s c .roots)) e i))) (v .notes (c .process) pos mine .y (rw (a .place) refl))
+
+  own : (d : ℕ) → HeldAt t (c .process) d → Gained s t (c .process) d
+  own d (HeldBy.root i) = roots-were (row-grips s t c (v .inv .formed) r) d i (member-pos (processOf t (c .process) .roots) d i)
+  own d (HeldBy.honorary e n) = old-was (row-grips s t c (v .inv .formed) r) d e n
+  own d (HeldBy.target f y i) = ⊎-elim (λ j. Gained.was (HeldBy.target f y j)) (λ j. target-was d (j .0) (j .1 .0)) (was-pending (row-fills s t c (v .inv .formed) r) i)
+  own d (HeldBy.value x f i n) = ⊎-elim (λ j. Gained.was (HeldBy.value x f j n)) (λ j. value-was d n (j .0) (j .1 .1)) (was-pending (row-fills s t c (v .inv .formed) r) i)
+
+pub held-was : HeldWas
+held-was s t c v r p pos mine d h = go (ℕ-discrete p (c .process))
+  where
+    go : Dec (p ≡ c .process) → Gained s t p d
+    go (yes e) = named (λ i. 0 < i → i ≤ mutatorsOf s → HeldAt t i d → Gained s t i d) e (λ a b. own s t c v r a b d) pos mine h
+    go (no e) = Gained.was (aside-held (row-aside s t c (v .inv .formed) r p e) (row-waits s t c (v .inv .formed) r p e) h)
