@@ -1,10 +1,10 @@
 -- Refusal 11 is never given: what is read or committed is of an occupied cell. Assumes nothing.
 --     deed-spares      a step that is offered reads occupied cells only
 --     never-free       no choice is answered by 11
-use mathlib.Core.Path.{_≡_, refl, sym, ap, _∙_, subst}
-use mathlib.Core.Bool.{Bool, true, false, false≢true, _||_}
+use mathlib.Core.Path.{_≡_, refl, sym, ap, subst}
+use mathlib.Core.Bool.{true, false, false≢true, _||_}
 use mathlib.Core.Logic.{_⊎_, inl, inr, ⊎-elim, by-cases}
-use mathlib.Core.List.{List, _∷_, List·Memᴰ·head}
+use mathlib.Core.List.{List, List·Memᴰ·head}
 use Prim.Native.Nat.{ℕ, _≤_, _<_}
 use native.Mathlib.Omega.{arith}
 use native.Mathlib.Decide.{ℕ-discrete, decLt}
@@ -15,7 +15,6 @@ use Rattle.base.proofs.Picking.{pick-ind, pick-no}
 use Rattle.cells.specs.Sets.{Member}
 use Rattle.cells.proofs.Bools.{not-both, and-parts}
 use Rattle.buffers.specs.declared.Spot.{Spot}
-use Rattle.buffers.specs.declared.Spot.the-variants as spot
 use Rattle.buffers.specs.declared.Store.{Store}
 use Rattle.buffers.specs.declared.Store.the-variants as store
 use Rattle.buffers.specs.declared.Entry.{Entry}
@@ -43,7 +42,6 @@ use Rattle.claims.specs.Pending.{waitingOf, unlockAt, Unlocking}
 use Rattle.spared.specs.Holds.{StoreIn, HeldBy, HeldAt}
 use Rattle.spared.specs.Inv.{Spared}
 use Rattle.spared.proofs.Holds.{mark-held, held-there}
-use Rattle.spared.proofs.Eras.{collector-fields}
 use Rattle.spared.proofs.Marks.{mark-store}
 
 -- a deed reads no free cell

@@ -40,7 +40,7 @@ use Rattle.stays_formed.proofs.Kept.{row-kept}
 use Rattle.stays_formed.proofs.Leaves.{row-system}
 use Rattle.claims.proofs.Answering.{implied}
 use Rattle.claims.proofs.Posted.{Leads, Seat, mark-seat, mark-part}
-use Rattle.spared.specs.Zones.{scanning, rests, quiet, gathers}
+use Rattle.spared.specs.Zones.{inScan, rests, quiet, gathers}
 use Rattle.spared.specs.Views.{Aside}
 use Rattle.spared.proofs.Paces.{row-aside}
 use Rattle.spared.proofs.Arrivals.{After, arrives}
@@ -63,7 +63,7 @@ OutOfStep t = (m : ℕ) → 0 < m → processOf t m .part .in_step ≡ false
 
 pub record Begins (s t : State) (c : Choice) (q o : Process) : Type 0 where
   -- outside row 7 its list is empty, or as it was outside row 7
-  pub listed : scanning (o .place) ≡ false → (o .work ≡ noCells) ⊎ ((o .work ≡ q .work) × (scanning (q .place) ≡ false))
+  pub listed : inScan (o .place) ≡ false → (o .work ≡ noCells) ⊎ ((o .work ≡ q .work) × (inScan (q .place) ≡ false))
   -- rows 6 and 8 begin with the type
   pub typed : gathers (o .place) (o .stage) ≡ true → (gathers (q .place) (q .stage) ≡ true) ⊎ OutOfStep t
   -- and till their takes the system's list loses nothing
@@ -88,7 +88,7 @@ pub data Joins (s t : State) (q o : Process) : Type 0 where
 -- ---- the tests
 -- from place k, stage j, to h, i: row 7 is not left, and neither the quiet zone nor that from the sweep's end on begins
 abbrev scansOn : ℕ → ℕ → Bool
-scansOn k h = pick (scanning k) (scanning h) true
+scansOn k h = pick (inScan k) (inScan h) true
 
 abbrev gathersOn : ℕ → ℕ → ℕ → ℕ → Bool
 gathersOn k j h i = pick (gathers h i) (gathers k j) true
@@ -108,7 +108,7 @@ itself true = refl
 itself false = refl
 
 all-itself : (k j : ℕ) → allOn k j k j ≡ true
-all-itself k j = rw (itself (scanning k), itself (gathers k j), itself (quiet k j), itself (rests k)) refl
+all-itself k j = rw (itself (inScan k), itself (gathers k j), itself (quiet k j), itself (rests k)) refl
 
 back : (a b : Bool) → pick a b true ≡ true → b ≡ false → a ≡ false
 back true b e f = absurd (not-both e f)
@@ -118,7 +118,7 @@ back false b e f = refl
 abbrev scanPlaces : List ℕ
 scanPlaces = row7First ∷ row7Mark ∷ row7Next ∷ row7Drop ∷ []
 
-outside : (z : ℕ → Bool) → allOf (λ k. not (z k)) scanPlaces ≡ true → (k : ℕ) → scanning k ≡ true → z k ≡ true → ⊥
+outside : (z : ℕ → Bool) → allOf (λ k. not (z k)) scanPlaces ≡ true → (k : ℕ) → inScan k ≡ true → z k ≡ true → ⊥
 outside z e k h g = false≢true (rw g at (all-true (λ i. not (z i)) scanPlaces e k h))
 
 module _ {s t : State} {c : Choice} {q o : Process} where
@@ -127,7 +127,7 @@ module _ {s t : State} {c : Choice} {q o : Process} where
       quietOn (q .place) (q .stage) (o .place) (o .stage) ≡ true → (rests (o .place) ≡ true → (rests (q .place) ≡ true) ⊎ Last s t c q) → Begins s t c q o
   begins a e g f b h =
       record {
-        listed = λ i. inr (e, back (scanning (q .place)) (scanning (o .place)) a i);
+        listed = λ i. inr (e, back (inScan (q .place)) (inScan (o .place)) a i);
         typed = g;
         grows = λ _. f;
         ended = λ i. inl (implied (quiet (o .place) (o .stage)) b i);
@@ -141,7 +141,7 @@ module _ {s t : State} {c : Choice} {q o : Process} where
       let d = and-both _ _ (b .1) in
       begins (a .0) e (λ i. inl (implied (gathers (o .place) (o .stage)) (b .0) i)) f (d .0) (λ i. inl (implied (rests (o .place)) (d .1) i))
 
-  scans : scanning (o .place) ≡ true → Begins s t c q o
+  scans : inScan (o .place) ≡ true → Begins s t c q o
   scans h =
       record {
         listed = λ i. absurd (not-both h i);
@@ -156,10 +156,10 @@ abbrev Begun : State → Choice → State → Type 0
 Begun s c t = After (λ o. Begins s t c (processOf s 0) o) 0 t
 
 -- a step of its mark stays in row 7
-mark-scans : {p r : ℕ} {q t : Process} {m n : Memory} → q .place ≡ row7Mark → Mark m p r q n t → scanning (t .place) ≡ true
+mark-scans : {p r : ℕ} {q t : Process} {m n : Memory} → q .place ≡ row7Mark → Mark m p r q n t → inScan (t .place) ≡ true
 mark-scans {q = q} {t = t} e h = go (mark-seat h)
   where
-    go : Seat (q .place) (t .place) → scanning (t .place) ≡ true
+    go : Seat (q .place) (t .place) → inScan (t .place) ≡ true
     go (Seat.stays f) = rw (f, e) refl
     go (Seat.leads Leads.write f g) = absurd (omega arith)
     go (Seat.leads Leads.new f g) = absurd (omega arith)

@@ -22,7 +22,7 @@ use Rattle.claims.specs.Pending.{waitingOf}
 use Rattle.spared.specs.Rested.{Blank}
 use Rattle.spared.specs.Views.{Effect}
 use Rattle.spared.specs.Inv.{Spared}
-use Rattle.spared.specs.Lemmas.{Flip, Kept}
+use Rattle.spared.specs.Lemmas.{Flip, RowsKeep}
 use Rattle.spared.proofs.Effects.{row-effect}
 use Rattle.spared.proofs.Eras.{alloc-follows, alloc-waits}
 use Rattle.spared.proofs.Shades.{black-marked}
@@ -59,7 +59,7 @@ module _ (s t : State) (c : Choice) (v : Spared s) (r : Row s c t) (e : t .memor
       let g = row-effect s t c (v .inv .formed) r in
       before g (sym (new-mark d g (k .0) (b .occupied)) ∙ black-marked t d b .equal ∙ e)
 
-pub step-blank : Kept Blank
+pub step-blank : RowsKeep Blank
 step-blank s t c v r n d b = go (row-sense s t c v r)
   where
     go : (t .memory .fm ≡ s .memory .fm) ⊎ Flip s t → ⊥

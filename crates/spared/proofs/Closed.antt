@@ -25,12 +25,12 @@ use Rattle.claims.proofs.Answering.{implied}
 use Rattle.claims.proofs.Rules.{Checked, ruled}
 use Rattle.spared.specs.Shades.{Marked}
 use Rattle.spared.specs.Holds.{StoreIn, HeldBy}
-use Rattle.spared.specs.Zones.{rests, sweeping}
+use Rattle.spared.specs.Zones.{rests, inSweep}
 use Rattle.spared.specs.Views.{Effect}
-use Rattle.spared.specs.Seats.{allSeats, leadsTo}
+use Rattle.spared.specs.Seats.{allStations, leadsTo}
 use Rattle.spared.specs.Good.{Good, Closed}
 use Rattle.spared.specs.Inv.{Spared}
-use Rattle.spared.specs.Lemmas.{Kept}
+use Rattle.spared.specs.Lemmas.{RowsKeep}
 use Rattle.spared.proofs.Effects.{row-effect}
 use Rattle.spared.proofs.Ruled.{row-ruled}
 use Rattle.spared.proofs.Holds.{held-there}
@@ -44,18 +44,18 @@ use Rattle.spared.proofs.Good.{sweeps-from, ended-sense, ended-held, en
 
 -- ---- the collector's places: the sweep runs from row 9's write on, and after it all is marked
 abbrev sweepRule : ℕ → ℕ → Bool
-sweepRule k j = pick (sweeping k) (leb row9Write k) true
+sweepRule k j = pick (inSweep k) (leb row9Write k) true
 
 sweep-rule : Checked sweepRule
 sweep-rule = ((((((((tt, refl), refl), refl), refl), refl), refl), refl), refl)
 
 abbrev overRule : ℕ → ℕ → ℕ → ℕ → Bool
-overRule k j h i = pick (sweeping k) (sweeping h || rests h) true
+overRule k j h i = pick (inSweep k) (inSweep h || rests h) true
 
 over-stays : Checked (λ k j. overRule k j k j)
 over-stays = ((((((((tt, refl), refl), refl), refl), refl), refl), refl), refl)
 
-over-leads : Checked (λ k j. allSeats (λ a. overRule k j (a .place) (a .stage)) (leadsTo k j))
+over-leads : Checked (λ k j. allStations (λ a. overRule k j (a .place) (a .stage)) (leadsTo k j))
 over-leads = ((((((((tt, refl), refl), refl), refl), refl), refl), refl), refl)
 
 -- ---- where no mark is pending a marked cell was marked
@@ -84,7 +84,7 @@ module _ (s t : State) (c : Choice) (v : Spared s) (r : Row s c t) where
     marked-leads a d h n = marked-good (marked-stays s t c v r (ended-sense s v z t c r) d (to-marked a d h (names-were a d (row-effect s t c (v .inv .formed) r) (h .occupied) n)))
 
   -- ---- outside the sweep occupied cells lead to occupied cells
-  module _ (z : sweeping (processOf s 0 .place) ≡ false) where
+  module _ (z : inSweep (processOf s 0 .place) ≡ false) where
     good : (d : ℕ) → usedOf (s .memory) d ≡ true → Good s d
     good d u = record { occupied = u; marked = λ y. absurd (not-both y z) }
 
@@ -99,15 +99,15 @@ module _ (s t : State) (c : Choice) (v : Spared s) (r : Row s c t) where
     occupied-leads a d u n =
         ⊎-elim (λ e. e) (λ h. absurd (freed (c .process) (h .1 .1) (h .0))) (used-or-freed s t c v r d (occupied-was a d (names-were a d (row-effect s t c (v .inv .formed) r) u n)))
 
-pub step-closed : Kept Closed
-step-closed s t c v r a d g n = go (split (sweeping (processOf t 0 .place))) (split (sweeping (processOf s 0 .place)))
+pub step-closed : RowsKeep Closed
+step-closed s t c v r a d g n = go (split (inSweep (processOf t 0 .place))) (split (inSweep (processOf s 0 .place)))
   where
-    over : sweeping (processOf s 0 .place) ≡ true → Marked (t .memory) a
+    over : inSweep (processOf s 0 .place) ≡ true → Marked (t .memory) a
     over y =
         ⊎-elim (λ e. g .marked e) (λ e. step-rested s t c v r .at e a (g .occupied))
-        (or-cases (sweeping (processOf t 0 .place)) (rests (processOf t 0 .place)) (implied (sweeping (processOf s 0 .place)) (row-ruled overRule over-stays over-leads s t c (v .inv .formed) r) y))
+        (or-cases (inSweep (processOf t 0 .place)) (rests (processOf t 0 .place)) (implied (inSweep (processOf s 0 .place)) (row-ruled overRule over-stays over-leads s t c (v .inv .formed) r) y))
 
-    go : (sweeping (processOf t 0 .place) ≡ true) ⊎ (sweeping (processOf t 0 .place) ≡ false) → (sweeping (processOf s 0 .place) ≡ true) ⊎ (sweeping (processOf s 0 .place) ≡ false) → Good t d
+    go : (inSweep (processOf t 0 .place) ≡ true) ⊎ (inSweep (processOf t 0 .place) ≡ false) → (inSweep (processOf s 0 .place) ≡ true) ⊎ (inSweep (processOf s 0 .place) ≡ false) → Good t d
     go (inl z) y = marked-leads s t c v r (sweeps-from s t c v r z) a d (g .marked z) n
-    go (inr z) (inl y) = marked-leads s t c v r (implied (sweeping (processOf s 0 .place)) (ruled sweepRule sweep-rule s (v .inv .formed)) y) a d (over y) n
+    go (inr z) (inl y) = marked-leads s t c v r (implied (inSweep (processOf s 0 .place)) (ruled sweepRule sweep-rule s (v .inv .formed)) y) a d (over y) n
     go (inr z) (inr y) = record { occupied = occupied-leads s t c v r y a d (g .occupied) n; marked = λ e. absurd (not-both e z) }

@@ -8,7 +8,6 @@ use mathlib.Core.Path.{_≡_, refl}
 use mathlib.Core.Bool.{Bool, not}
 use mathlib.Core.Logic.{inl, inr}
 use Prim.Native.Nat.{ℕ}
-use native.Mathlib.Omega.{arith}
 use Rattle.cells.specs.Sets.{Member}
 use Rattle.cells.proofs.Members.{add-keeps}
 use Rattle.memory.specs.declared.Memory.{Memory}
@@ -17,8 +16,9 @@ use Rattle.state.specs.declared.Process.{Process}
 use Rattle.state.specs.Codes.{storeMarkOld, storeMarkY, storeWrite, rootsMark, rootsFinish, row7Mark, row7Next, row7Drop, senseStage, phaseStage, lockStage, againStage, writeStage, unlockStage}
 use Rattle.state.specs.States.{at, marking, listing, shaking}
 use Rattle.model.specs.Rows.{unnoted, Marks, Next, Mark}
-use Rattle.spared.specs.Shades.{Marked, Safe, Covered}
+use Rattle.spared.specs.Shades.{Marked, NullOrMarked, Covered}
 use Rattle.spared.specs.Lemmas.{Over}
+use Rattle.spared.proofs.Marks.{marks-same}
 
 -- the mark goes on: the cell is the same
 goes-on : {q : Process} {v : ℕ} (j : ℕ) (b d : Bool) (g : ℕ) → Marks q v → Marks (at (q .place) j (marking (q .cell) b d g q)) v
@@ -46,28 +46,9 @@ unshaken r i (Marks.new e) = Marks.new e
 unshaken r i (Marks.root e) = Marks.root e
 unshaken r i (Marks.field e) = Marks.field e
 
--- one cell is marked at a time
-one-cell : {q : Process} {r v : ℕ} → Marks q r → Marks q v → r ≡ v
-one-cell (Marks.old e) (Marks.old f) = refl
-one-cell (Marks.old e) (Marks.new f) = absurd (omega arith)
-one-cell (Marks.old e) (Marks.root f) = absurd (omega arith)
-one-cell (Marks.old e) (Marks.field f) = absurd (omega arith)
-one-cell (Marks.new e) (Marks.old f) = absurd (omega arith)
-one-cell (Marks.new e) (Marks.new f) = refl
-one-cell (Marks.new e) (Marks.root f) = absurd (omega arith)
-one-cell (Marks.new e) (Marks.field f) = absurd (omega arith)
-one-cell (Marks.root e) (Marks.old f) = absurd (omega arith)
-one-cell (Marks.root e) (Marks.new f) = absurd (omega arith)
-one-cell (Marks.root e) (Marks.root f) = refl
-one-cell (Marks.root e) (Marks.field f) = refl
-one-cell (Marks.field e) (Marks.old f) = absurd (omega arith)
-one-cell (Marks.field e) (Marks.new f) = absurd (omega arith)
-one-cell (Marks.field e) (Marks.root f) = refl
-one-cell (Marks.field e) (Marks.field f) = refl
-
 -- ---- what is covered, where memory goes from m to n
 module _ {m n : Memory} (stays : (d : ℕ) → Marked m d → Marked n d) {v : ℕ} where
-  pub safe-stays : Safe m v → Safe n v
+  pub safe-stays : NullOrMarked m v → NullOrMarked n v
   safe-stays (inl e) = inl e
   safe-stays (inr h) = inr (stays v h)
 
@@ -77,7 +58,7 @@ module _ {m n : Memory} (stays : (d : ℕ) → Marked m d → Marked n d) {v : �
 
   ended : {r : ℕ} {q t : Process} → Marks q r → Marked m r → Covered m q v → Covered n t v
   ended i h (Covered.safe k) = Covered.safe (safe-stays k)
-  ended {r} i h (Covered.now k) = Covered.safe (inr (rw (← one-cell i k) (stays r h)))
+  ended {r} i h (Covered.now k) = Covered.safe (inr (rw (← marks-same i k) (stays r h)))
 
 pub mark-covers : {m n : Memory} {p r : ℕ} {q t : Process} {v : ℕ} → Marks q r → Over m p r q → ((d : ℕ) → Marked m d → Marked n d) → Mark m p r q n t → Covered m q v → Covered n t v
 mark-covers {q = q} i o z (Mark.looks e {b} g) k = covered-stays z (goes-on senseStage b (q .sense) (q .grey)) k

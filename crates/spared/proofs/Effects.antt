@@ -110,8 +110,8 @@ module _ (s : State) (c : Choice) (p : ℕ) (q : Process) where
   allocates-cell (Mutator.finishes-roots a k) b z = absurd (omega (arith, a .place, b .place))
   allocates-cell (Mutator.finishes-work a k) b z = absurd (omega (arith, a .place, b .place))
 
-abbrev pub Frees : State → ℕ → Type 0
-Frees s p = At row10Free noStage (processOf s p) → IsCell (s .memory .cells) (processOf s p .x)
+abbrev pub FreesCell : State → ℕ → Type 0
+FreesCell s p = At row10Free noStage (processOf s p) → IsCell (s .memory .cells) (processOf s p .x)
 
 module _ {s : State} {c : Choice} (w : WellFormed s) where
   pub allocates-at : {t : State} → Row s c t → At top noStage (mover s c) → c .op ≡ 0 → c .kind ≡ 0 → IsCell (s .memory .cells) (c .x)
@@ -119,13 +119,13 @@ module _ {s : State} {c : Choice} (w : WellFormed s) where
   allocates-at (Row.mutator k {p} e pos mine r) a o z = named (λ i. At top noStage (processOf s i) → IsCell (s .memory .cells) (c .x)) e (λ b. allocates-cell s c p (processOf s p) r b o) a
   allocates-at (Row.commits k e mine b h) a o z = absurd (omega arith)
 
-  pub frees-at : {t : State} → Row s c t → Frees s (c .process)
-  frees-at (Row.collector k e r) = named (Frees s) e (λ a. sweep-free-at (a .place) (w .collector) .is-x)
-  frees-at (Row.mutator k {p} e pos mine r) = named (Frees s) e (λ a. absurd (omega (arith, mutator-within (w .mutators p pos mine), a .place)))
-  frees-at (Row.commits k {p} e mine b h) = named (Frees s) e (go (ℕ-discrete p 0))
+  pub frees-at : {t : State} → Row s c t → FreesCell s (c .process)
+  frees-at (Row.collector k e r) = named (FreesCell s) e (λ a. sweep-free-at (a .place) (w .collector) .is-x)
+  frees-at (Row.mutator k {p} e pos mine r) = named (FreesCell s) e (λ a. absurd (omega (arith, mutator-within (w .mutators p pos mine), a .place)))
+  frees-at (Row.commits k {p} e mine b h) = named (FreesCell s) e (go (ℕ-discrete p 0))
     where
-      go : Dec (p ≡ 0) → Frees s p
-      go (yes z) = named (Frees s) z (λ a. sweep-free-at (a .place) (w .collector) .is-x)
+      go : Dec (p ≡ 0) → FreesCell s p
+      go (yes z) = named (FreesCell s) z (λ a. sweep-free-at (a .place) (w .collector) .is-x)
       go (no z) = λ a. absurd (omega (arith, mutator-within (w .mutators p (omega arith) mine), a .place))
 
 -- what is done to memory, by one who is at row 10's free only with a cell to free

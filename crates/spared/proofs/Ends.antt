@@ -17,7 +17,6 @@ use Rattle.cells.proofs.Bools.{split}
 use Rattle.cells.proofs.Members.{not-empty, add-same}
 use Rattle.cells.proofs.Subsets.{empty-sub, sub-union-right}
 use Rattle.buffers.specs.declared.Entry.{Entry}
-use Rattle.state.specs.declared.Handshake.{Handshake}
 use Rattle.state.specs.declared.Handshake.the-variants as hand
 use Rattle.state.specs.declared.RoundType.{RoundType}
 use Rattle.state.specs.declared.RoundType.the-variants as round
@@ -41,11 +40,12 @@ use Rattle.claims.proofs.Answering.{implied}
 use Rattle.claims.proofs.Table.{same-phase}
 use Rattle.spared.specs.Shades.{NoGrey}
 use Rattle.spared.specs.Holds.{Every}
-use Rattle.spared.specs.Zones.{scanning, gathers, region}
-use Rattle.spared.specs.Ends.{Empty, Ends}
+use Rattle.spared.specs.Zones.{inScan, gathers, region}
+use Rattle.spared.specs.Ends.{Empty, MarkingEnds}
 use Rattle.spared.specs.Views.{Turns}
 use Rattle.spared.specs.Inv.{Spared}
-use Rattle.spared.specs.Lemmas.{Kept}
+use Rattle.spared.specs.Lemmas.{RowsKeep}
+use Rattle.spared.proofs.Eras.{is-sweeping}
 use Rattle.spared.proofs.Turns.{row-turns}
 use Rattle.spared.proofs.Paces.{row-mutators}
 use Rattle.spared.proofs.Holds.{mark-held}
@@ -67,22 +67,15 @@ not-noop (Asked.only t) e h = false≢true (subst (λ i. not (noopOf i) ≡ true
 not-noop Asked.rootsOrWork e (inl h) = false≢true (sym (ap noopOf h))
 not-noop Asked.rootsOrWork e (inr h) = false≢true (sym (ap noopOf h))
 
-is-sweeping : (h : Handshake) → sweepingOf h ≡ true → h ≡ hand.IdleMarkSweep
-is-sweeping hand.Idle e = absurd (false≢true e)
-is-sweeping hand.IdleInit e = absurd (false≢true e)
-is-sweeping hand.InitMark e = absurd (false≢true e)
-is-sweeping hand.Mark e = absurd (false≢true e)
-is-sweeping hand.IdleMarkSweep e = refl
-
 -- outside row 7, in the region, with handshake phase IdleMarkSweep and no no-op
 abbrev gatherRule : ℕ → ℕ → Bool
-gatherRule k j = pick (gathers k j) (pick (scanning k) false (region k j and (sweepingOf (postedOf k j) and noNoop (askedOf k j)))) true
+gatherRule k j = pick (gathers k j) (pick (inScan k) false (region k j and (sweepingOf (postedOf k j) and noNoop (askedOf k j)))) true
 
 gather-rule : Checked gatherRule
 gather-rule = ((((((((tt, refl), refl), refl), refl), refl), refl), refl), refl)
 
 record Told (s : State) : Type 0 where
-  pub off : scanning (processOf s 0 .place) ≡ false
+  pub off : inScan (processOf s 0 .place) ≡ false
   pub region : region (processOf s 0 .place) (processOf s 0 .stage) ≡ true
   pub phase : s .system .phase ≡ hand.IdleMarkSweep
   pub asked : s .system .kind ≡ round.Noop → ⊥
@@ -92,7 +85,7 @@ module _ (s : State) (v : Spared s) (g : gathers (processOf s 0 .place) (process
   told =
       let k = processOf s 0 .place in
       let j = processOf s 0 .stage in
-      let d = unless (scanning k) (region k j and (sweepingOf (postedOf k j) and noNoop (askedOf k j))) (implied (gathers k j) (ruled gatherRule gather-rule s (v .inv .formed)) g) in
+      let d = unless (inScan k) (region k j and (sweepingOf (postedOf k j) and noNoop (askedOf k j))) (implied (gathers k j) (ruled gatherRule gather-rule s (v .inv .formed)) g) in
       let a = and-both (region k j) (sweepingOf (postedOf k j) and noNoop (askedOf k j)) (d .1) in
       let b = and-both (sweepingOf (postedOf k j)) (noNoop (askedOf k j)) (a .1) in
       record {
@@ -232,7 +225,7 @@ module _ (s t : State) (c : Choice) (v : Spared s) (r : Row s c t) (g : gathers 
       go (yes z) = rw z (own-is (rw z at a) (rw z at l) (owns (rw z at a) (rw z at l)) n (rw z at (h m a l)))
       go (no z) = is-empty (row-others (v .inv .formed) r m z) (h m a l)
 
-pub step-ends : Kept Ends
+pub step-ends : RowsKeep MarkingEnds
 step-ends s t c v r g w h = go (row-begins s t c (v .inv .formed) r .typed g)
   where
     go : (gathers (processOf s 0 .place) (processOf s 0 .stage) ≡ true) ⊎ OutOfStep t → Every t Empty

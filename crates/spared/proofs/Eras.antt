@@ -1,8 +1,9 @@
 -- What the collector's place tells of the mutators' handshake phases, of memory's senses and phase, and of what waits
 -- for memory. Assumes nothing.
+--     is-sweeping                                      the test of handshake phase IdleMarkSweep
 --     rule-passes                                      a test of handshake phases that every mutator passes, by a rule
 --                                                      over the collector's places
---     era-of, idle-phase                               S5, S6
+--     era-of, idle-marked                              S5, S6
 --     scanning-phase, roots-asked                      S8, S10
 --     alloc-follows, region-deletes, scan-noted        S12, S14; the noted fM from row 6 on
 --     mark-phase                                       memory's phase in rows 6 to 9
@@ -48,8 +49,8 @@ use Rattle.claims.proofs.Handshakes.{settled-handshakes}
 use Rattle.claims.proofs.Senses.{idleOf, is-idle}
 use Rattle.spared.specs.Shades.{AllMarked}
 use Rattle.spared.specs.Holds.{StoreIn, Every}
-use Rattle.spared.specs.Zones.{rests, quiet, region, scanning, inserting, deleting}
-use Rattle.spared.specs.Lemmas.{Era, EraOf, IdlePhase, Scanning, RootsAsked, AllocFollows, RegionDeletes, ScanNoted, FlipWaits, AllocWaits, CollectorFields}
+use Rattle.spared.specs.Zones.{rests, quiet, region, inScan, inserting, deleting}
+use Rattle.spared.specs.Lemmas.{Era, EraOf, IdleMarked, Scanning, RootsAsked, AllocFollows, RegionDeletes, ScanNoted, FlipWaits, AllocWaits, CollectorFields}
 
 -- ---- the mutators' handshake phases
 -- the phase before h, and the one that a mutator is in before it answers
@@ -83,7 +84,7 @@ line-phase InTable.to-work = refl
 abbrev pub passedOf : (Handshake → Bool) → ℕ → ℕ → Bool
 passedOf t k j = t (postedOf k j) and pick (busyOf k j) (t (behindOf (roundType k) (postedOf k j))) true
 
-is-sweeping : (h : Handshake) → sweepingOf h ≡ true → h ≡ hand.IdleMarkSweep
+pub is-sweeping : (h : Handshake) → sweepingOf h ≡ true → h ≡ hand.IdleMarkSweep
 is-sweeping hand.Idle e = absurd (false≢true e)
 is-sweeping hand.IdleInit e = absurd (false≢true e)
 is-sweeping hand.InitMark e = absurd (false≢true e)
@@ -264,8 +265,8 @@ era-of s v = go (told (v .inv .written))
         (λ m x y. not-true-false (deleting (processOf s m .part .phase)) (rule-passes s (v .inv) (λ k j. blankOf (stretchOf k) (momentOf k j)) (λ h. not (deleting h)) undeleting-rule a m x y))
     go (Told.full e f a g h) = Era.marking (rule-passes s (v .inv) (λ k j. leb 5 (stretchNo (stretchOf k))) inserting inserting-rule a)
 
-pub idle-phase : IdlePhase
-idle-phase s v i = go (told (v .inv .written))
+pub idle-marked : IdleMarked
+idle-marked s v i = go (told (v .inv .written))
   where
     go : ToldOf s → AllMarked (s .memory) ⊎ Every s (λ q. inserting (q .part .phase) ≡ false)
     go (Told.resting a b e) = inl (v .rested .at (by-rule s (v .inv) (λ k j. restsOf (stretchOf k)) (λ k j. rests k) rests-rule a))
@@ -274,11 +275,11 @@ idle-phase s v i = go (told (v .inv .written))
     go (Told.full e f a g h) = absurd (g i)
 
 -- ---- S8, S14
-scanning-rule : Checked (λ k j. pick (scanning k) (passedOf sweepingOf k j) true)
+scanning-rule : Checked (λ k j. pick (inScan k) (passedOf sweepingOf k j) true)
 scanning-rule = ((((((((tt, refl), refl), refl), refl), refl), refl), refl), refl)
 
 pub scanning-phase : Scanning
-scanning-phase s v e m a b = is-sweeping (processOf s m .part .phase) (rule-passes s v (λ k j. scanning k) sweepingOf scanning-rule e m a b)
+scanning-phase s v e m a b = is-sweeping (processOf s m .part .phase) (rule-passes s v (λ k j. inScan k) sweepingOf scanning-rule e m a b)
 
 region-rule : Checked (λ k j. pick (region k j) (passedOf deleting k j) true)
 region-rule = ((((((((tt, refl), refl), refl), refl), refl), refl), refl), refl)

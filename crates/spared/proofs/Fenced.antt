@@ -1,14 +1,12 @@
 -- B1 is kept: an answering mutator past its fence has no field store pending. Assumes nothing.
 --     step-fenced     after each step
-use mathlib.Core.Path.{_≡_, refl, sym, ap, _∙_}
-use mathlib.Core.Bool.{Bool, true, false, false≢true}
-use mathlib.Core.List.{List, List·Memᴰ·append-cases, List·Memᴰ·eq-of-singleton}
+use mathlib.Core.Path.{_≡_, refl, sym, _∙_}
+use mathlib.Core.Bool.{false, false≢true}
+use mathlib.Core.List.{List}
 use mathlib.Core.Logic.{⊎-elim}
 use Prim.Native.Nat.{ℕ, _≤_, _<_}
 use native.Mathlib.Omega.{arith}
 use native.Mathlib.Decide.{ℕ-discrete}
-use Rattle.cells.proofs.Bools.{not-both}
-use Rattle.buffers.specs.declared.Store.{Store}
 use Rattle.buffers.specs.declared.Store.the-variants as store
 use Rattle.buffers.specs.declared.Entry.{Entry}
 use Rattle.memory.specs.declared.Memory.{Memory}
@@ -24,13 +22,13 @@ use Rattle.model.specs.Reasons.{mover}
 use Rattle.stays_formed.specs.Leaves.{Writes}
 use Rattle.claims.specs.Pending.{waitingOf}
 use Rattle.claims.proofs.Posted.{Leads, Seat, mark-seat}
-use Rattle.spared.specs.Holds.{StoreIn, NoField}
+use Rattle.spared.specs.Holds.{NoField}
 use Rattle.spared.specs.Zones.{fencedPlaces}
 use Rattle.spared.specs.Views.{Fills, Aside}
-use Rattle.spared.specs.Fenced.{Fenced}
+use Rattle.spared.specs.Fenced.{PastFence}
 use Rattle.spared.specs.Inv.{Spared}
-use Rattle.spared.specs.Lemmas.{Kept}
-use Rattle.spared.proofs.Fills.{row-fills, row-waits}
+use Rattle.spared.specs.Lemmas.{RowsKeep}
+use Rattle.spared.proofs.Fills.{row-fills, row-waits, came, field-writes}
 use Rattle.spared.proofs.Paces.{row-aside, row-mutators}
 use Rattle.spared.proofs.Acts.{Acts, row-acts, no-store}
 
@@ -48,39 +46,20 @@ seat-fenced i (Seat.leads Leads.fields a b) h = absurd (false≢true (rw b at h)
 seat-fenced i (Seat.leads Leads.field a b) h = absurd (false≢true (rw b at h))
 
 -- what a process in a root's mark writes is no field
-abbrev isField : Store → Bool
-isField (store.Mark c b) = false
-isField (store.Field c f v) = true
-isField (store.Sense b) = false
-isField (store.AllocSense b) = false
-isField (store.Phase h) = false
+writes-none : {q : Process} {x f u : ℕ} → q .place ≡ rootsMark → Writes q (store.Field x f u) → ⊥
+writes-none z w = omega (arith, field-writes w .0 .place)
 
-writes-none : {q : Process} {v : Store} → q .place ≡ rootsMark → Writes q v → isField v ≡ false
-writes-none z (Writes.mark i e) = refl
-writes-none z (Writes.field a) = absurd (omega (arith, a .place))
-writes-none z (Writes.sense a) = refl
-writes-none z (Writes.init a) = refl
-writes-none z (Writes.marking a) = refl
-writes-none z (Writes.alloc a) = refl
-writes-none z (Writes.sweep a) = refl
-writes-none z (Writes.idle a) = refl
-
-fills-none : {c : Choice} {q : Process} {n : Memory} {l k : List Entry} → (c .kind ≡ 0 → (v : Store) → Writes q v → isField v ≡ false) → Fills c q n l k → NoField l → NoField k
-fills-none z (Fills.keeps e) h x f u i = h x f u (rw e at i)
-fills-none {l = l} {k} z (Fills.appends a {v} i e) h x f u (StoreIn.pends d j y) =
-    ⊎-elim (λ g. h x f u (StoreIn.pends d g y))
-    (λ g. not-both (ap isField y) (ap (λ (o : Entry). isField (o .store)) (List·Memᴰ·eq-of-singleton g) ∙ z a v i))
-    (List·Memᴰ·append-cases l (rw e at j))
-fills-none z (Fills.leaves a e i g b d) h x f u (StoreIn.pends o j y) = h x f u (StoreIn.pends o (g o j) y)
+fills-none : {c : Choice} {q : Process} {n : Memory} {l k : List Entry} → (c .kind ≡ 0 → (x f u : ℕ) → Writes q (store.Field x f u) → ⊥) → Fills c q n l k → NoField l → NoField k
+fills-none z k h x f u i = ⊎-elim (h x f u) (λ w. z (w .0) x f u (w .1)) (came k i)
 
 module _ (s t : State) (c : Choice) (v : Spared s) (r : Row s c t) where
   -- the mutator that steps
   own : {o : Process} → Acts c (c .process) (mover s c) o (s .memory) (t .memory) → 0 < c .process → c .process ≤ mutatorsOf s → Among (o .place) fencedPlaces → NoField (waitingOf t (c .process))
-  own (Acts.commits k e) pos mine h x f u = fills-none (λ z _ _. absurd (omega arith)) (row-fills s t c (v .inv .formed) r) (v .fenced (c .process) pos mine (rw e at h)) x f u
+  own (Acts.commits k e) pos mine h x f u = fills-none (λ z _ _ _ _. omega arith) (row-fills s t c (v .inv .formed) r) (v .fenced (c .process) pos mine (rw e at h)) x f u
   own (Acts.marks i n e) pos mine h x f u =
       let z = seat-fenced i (mark-seat e) h in
-      fills-none (λ _ _. writes-none z) (row-fills s t c (v .inv .formed) r) (v .fenced (c .process) pos mine (rw z refl)) x f u
-  own (Acts.roots a i e n z) pos mine h x f u = fills-none (λ _ _. writes-none (a .place)) (row-fills s t c (v .inv .formed) r) (v .fenced (c .process) pos mine (rw (a .place) refl)) x f u
+      fills-none (λ _ _ _ _. writes-none z) (row-fills s t c (v .inv .formed) r) (v .fenced (c .process) pos mine (rw z refl)) x f u
+  own (Acts.roots a i e n z) pos mine h x f u = fills-none (λ _ _ _ _. writes-none (a .place)) (row-fills s t c (v .inv .formed) r) (v .fenced (c .process) pos mine (rw (a .place) refl)) x f u
   own (Acts.outside k) pos mine h x f u = no-store (sym (pending-is (t .memory) (c .process)) ∙ k .fenced pos h)
 
   aside-place : {o u : Process} → Aside o u → u .place ≡ o .place
@@ -90,5 +69,5 @@ module _ (s t : State) (c : Choice) (v : Spared s) (r : Row s c t) where
   at-fenced m a b (yes e) h = rw e (own (row-acts s t c (v .inv .formed) r) (rw e at a) (rw e at b) (rw e at h))
   at-fenced m a b (no e) h = rw (row-waits s t c (v .inv .formed) r m e) (v .fenced m a b (rw (aside-place (row-aside s t c (v .inv .formed) r m e)) at h))
 
-pub step-fenced : Kept Fenced
+pub step-fenced : RowsKeep PastFence
 step-fenced s t c v r m a b = at-fenced s t c v r m a (rw (row-mutators s t c r) at b) (ℕ-discrete m (c .process))

@@ -19,7 +19,7 @@ use Rattle.model.specs.Rows.{Row}
 use Rattle.model.specs.Reasons.{mover}
 use Rattle.stays_formed.proofs.Kept.{row-kept}
 use Rattle.claims.specs.Pending.{waitingOf}
-use Rattle.spared.specs.Shades.{Safe}
+use Rattle.spared.specs.Shades.{NullOrMarked}
 use Rattle.spared.specs.Holds.{FieldIn, Every}
 use Rattle.spared.specs.Zones.{deleting}
 use Rattle.spared.specs.Views.{Effect}
@@ -31,7 +31,7 @@ use Rattle.spared.proofs.Overs.{value-safe}
 
 pub data FieldAfter (s t : State) (d g : ℕ) : Type 0 where
   same : fieldOf (t .memory) d g ≡ fieldOf (s .memory) d g → FieldAfter s t d g
-  safe : Safe (t .memory) (fieldOf (t .memory) d g) → FieldAfter s t d g
+  safe : NullOrMarked (t .memory) (fieldOf (t .memory) d g) → FieldAfter s t d g
   blank : leb (processOf s 0 .place) row5Round ≡ true → Every s (λ q. deleting (q .part .phase) ≡ false) → FieldAfter s t d g
 
 module _ (s t : State) (c : Choice) (v : Spared s) (r : Row s c t) (e : t .memory .fm ≡ s .memory .fm) where
@@ -39,8 +39,8 @@ module _ (s t : State) (c : Choice) (v : Spared s) (r : Row s c t) (e : t .memor
   stored : (d g w : ℕ) → fieldOf (t .memory) d g ≡ w → FieldIn (waitingOf s (c .process)) d g w → FieldAfter s t d g
   stored d g w k i = go (value-safe s v (c .process) d g w i)
     where
-      go : (Safe (s .memory) w) ⊎ ((s .memory .fa ≡ s .memory .fm → ⊥) × ((leb (processOf s 0 .place) row5Round ≡ true) × Every s (λ q. deleting (q .part .phase) ≡ false))) → FieldAfter s t d g
-      go (inl h) = FieldAfter.safe (subst (Safe (t .memory)) (sym k) (safe-stays (marked-stays s t c v r e) h))
+      go : (NullOrMarked (s .memory) w) ⊎ ((s .memory .fa ≡ s .memory .fm → ⊥) × ((leb (processOf s 0 .place) row5Round ≡ true) × Every s (λ q. deleting (q .part .phase) ≡ false))) → FieldAfter s t d g
+      go (inl h) = FieldAfter.safe (subst (NullOrMarked (t .memory)) (sym k) (safe-stays (marked-stays s t c v r e) h))
       go (inr h) = FieldAfter.blank (h .1 .0) (h .1 .1)
 
   of-field : (d g : ℕ) → g < maxFields → Effect c (mover s c) (waitingOf s (c .process)) (s .memory) (t .memory) → FieldAfter s t d g

@@ -1,9 +1,15 @@
 -- What every row does to the pending stores. Assumes nothing.
---     row-fills     those of the process that steps: the view
---     row-waits     those of the others stay
-use mathlib.Core.Path.{_≡_, refl, sym, _∙_}
-use mathlib.Core.List.{List·Memᴰ·head, List·Memᴰ·tail}
+--     row-fills        those of the process that steps: the view
+--     row-waits        those of the others stay
+--     came             a store that is pending was so, or has just been written
+--     field-writes     the store of a field is written at its place alone
+use mathlib.Core.Path.{_≡_, refl, sym, ap, subst, _∙_}
+use mathlib.Core.List.{List, List·Memᴰ·head, List·Memᴰ·tail, List·Memᴰ·append-cases, List·Memᴰ·eq-of-singleton}
+use mathlib.Core.Logic.{_⊎_, inl, inr, ⊎-elim}
 use Prim.Native.Nat.{ℕ}
+use Rattle.buffers.specs.declared.Store.{Store}
+use Rattle.buffers.specs.declared.Store.the-variants as store
+use Rattle.buffers.specs.declared.Entry.{Entry}
 use Rattle.buffers.specs.Fits.{IsCell}
 use Rattle.memory.specs.declared.Memory.{Memory}
 use Rattle.memory.specs.Views.{pendingFor}
@@ -14,13 +20,14 @@ use Rattle.memory_formed.specs.WellFormed.{MemoryFormed}
 use Rattle.memory_formed.proofs.Shapes.{shaped}
 use Rattle.state.specs.declared.Process.{Process}
 use Rattle.state.specs.declared.Choice.{Choice}
-use Rattle.state.specs.Codes.{top, row10Free, noStage}
+use Rattle.state.specs.Codes.{top, storeWrite, row10Free, noStage}
 use Rattle.model.specs.Rows.{At}
 use Rattle.model.specs.Reasons.{mover}
-use Rattle.stays_formed.specs.Leaves.{Stored}
+use Rattle.stays_formed.specs.Leaves.{Writes, Stored}
 use Rattle.stays_formed.proofs.Leaves.{row-memory}
 use Rattle.claims.proofs.Moves.{allocates-quiet, frees-quiet, row-goes}
 use Rattle.claims.proofs.Pending.{others-pending}
+use Rattle.spared.specs.Holds.{StoreIn}
 use Rattle.spared.specs.Views.{Fills}
 use Rattle.spared.specs.Lemmas.{RowFills, RowWaits}
 use Rattle.spared.proofs.Effects.{allocates-at, frees-at}
@@ -43,3 +50,12 @@ row-fills s t c w r =
 
 pub row-waits : RowWaits
 row-waits s t c w r p ne = sym (pending-is (t .memory) p) ∙ others-pending p (shaped (s .memory) (w .memory)) ne (row-goes w r) ∙ pending-is (s .memory) p
+
+pub came : {c : Choice} {q : Process} {n : Memory} {l k : List Entry} {v : Store} → Fills c q n l k → StoreIn k v → (StoreIn l v) ⊎ ((c .kind ≡ 0) × Writes q v)
+came (Fills.keeps e) i = inl (rw e at i)
+came {q = q} {l = l} (Fills.appends z w e) (StoreIn.pends d i g) =
+    ⊎-elim (λ j. inl (StoreIn.pends d j g)) (λ j. inr (z, subst (Writes q) (ap (λ (h : Entry). h .store) (sym (List·Memᴰ·eq-of-singleton j)) ∙ g) w)) (List·Memᴰ·append-cases l (rw e at i))
+came (Fills.leaves z e i f m a) (StoreIn.pends d j g) = inl (StoreIn.pends d (f d j) g)
+
+pub field-writes : {q : Process} {x f y : ℕ} → Writes q (store.Field x f y) → At storeWrite noStage q × ((q .x ≡ x) × ((q .f ≡ f) × (q .y ≡ y)))
+field-writes (Writes.field a) = (a, (refl, (refl, refl)))

@@ -2,17 +2,15 @@
 --     held-was     it was held, is named by a field of what was held, or is new (L12)
 use mathlib.Core.Path.{_≡_, refl, sym, ap, subst, _∙_}
 use mathlib.Core.Bool.{true, false≢true}
-use mathlib.Core.List.{List, List·Memᴰ·append-cases, List·Memᴰ·eq-of-singleton}
-use mathlib.Core.Logic.{_⊎_, inl, inr, ⊎-elim}
+use mathlib.Core.List.{List}
+use mathlib.Core.Logic.{_⊎_, ⊎-elim}
 use Prim.Native.Nat.{ℕ, _≤_, _<_}
 use native.Mathlib.Omega.{arith}
 use native.Mathlib.Decide.{ℕ-discrete}
 use Rattle.cells.specs.Sets.{Member}
 use Rattle.cells.proofs.Members.{member-pos, in-add, in-remove}
-use Rattle.buffers.specs.declared.Store.the-variants as store
 use Rattle.buffers.specs.declared.Entry.{Entry}
 use Rattle.buffers.specs.Fits.{maxFields}
-use Rattle.memory.specs.declared.Memory.{Memory}
 use Rattle.memory.specs.Memories.{usedOf, markOf}
 use Rattle.memory.specs.Looks.{lookFieldOf}
 use Rattle.memory.proofs.Effects.{allocate-taken}
@@ -26,15 +24,14 @@ use Rattle.formed.specs.Fits.{WellFormed}
 use Rattle.formed.proofs.Gives.{collector-within}
 use Rattle.model.specs.Rows.{At, seesValue, Marks, Mutator, Row}
 use Rattle.model.specs.Reasons.{mover}
-use Rattle.stays_formed.specs.Leaves.{Writes}
 use Rattle.stays_formed.proofs.Frames.{named}
 use Rattle.claims.specs.Pending.{waitingOf}
 use Rattle.claims.proofs.Moves.{marks-place}
-use Rattle.spared.specs.Holds.{StoreIn, FieldIn, HeldBy, HeldAt}
-use Rattle.spared.specs.Views.{Fills, Grips, Aside}
+use Rattle.spared.specs.Holds.{FieldIn, HeldBy, HeldAt}
+use Rattle.spared.specs.Views.{Grips, Aside}
 use Rattle.spared.specs.Inv.{Spared}
 use Rattle.spared.specs.Lemmas.{Gained, HeldWas}
-use Rattle.spared.proofs.Fills.{row-fills, row-waits}
+use Rattle.spared.proofs.Fills.{row-fills, row-waits, came, field-writes}
 use Rattle.spared.proofs.Grips.{row-grips}
 use Rattle.spared.proofs.Paces.{row-aside}
 use Rattle.spared.proofs.Sights.{look-field}
@@ -84,17 +81,6 @@ still e f g (HeldBy.value x y i n) = HeldBy.value x y (rw g at i) n
 aside-held : {o u : Process} {l k : List Entry} {d : ℕ} → Aside o u → k ≡ l → HeldBy u k d → HeldBy o l d
 aside-held (Aside.aside r i e) = still (ap (λ (q : Process). q .roots) e) (ap (λ (q : Process). q .old) e)
 
--- ---- the pending stores of the process that steps
-field-writes : {q : Process} {x f y : ℕ} → Writes q (store.Field x f y) → At storeWrite noStage q × ((q .x ≡ x) × (q .y ≡ y))
-field-writes (Writes.field a) = (a, (refl, refl))
-
--- a field store was pending, or is written now
-was-pending : {c : Choice} {q : Process} {n : Memory} {l k : List Entry} {x f y : ℕ} → Fills c q n l k → FieldIn k x f y → (FieldIn l x f y) ⊎ (At storeWrite noStage q × ((q .x ≡ x) × (q .y ≡ y)))
-was-pending (Fills.keeps e) i = inl (rw e at i)
-was-pending {q = q} {l = l} (Fills.appends z w e) (StoreIn.pends d i g) =
-    ⊎-elim (λ j. inl (StoreIn.pends d j g)) (λ j. inr (field-writes (subst (Writes q) (ap (λ (h : Entry). h .store) (sym (List·Memᴰ·eq-of-singleton j)) ∙ g) w))) (List·Memᴰ·append-cases l (rw e at i))
-was-pending (Fills.leaves z e i f m a) (StoreIn.pends d j g) = inl (StoreIn.pends d (f d j) g)
-
 -- ---- the process that steps
 module _ (s t : State) (c : Choice) (v : Spared s) (r : Row s c t) (pos : 0 < c .process) (mine : c .process ≤ mutatorsOf s) where
   -- a field of a root is read: it sees memory's value, or one that is pending
@@ -132,8 +118,8 @@ module _ (s t : State) (c : Choice) (v : Spared s) (r : Row s c t) (pos : 0 < c 
   own : (d : ℕ) → HeldAt t (c .process) d → Gained s t (c .process) d
   own d (HeldBy.root i) = roots-were (row-grips s t c (v .inv .formed) r) d i (member-pos (processOf t (c .process) .roots) d i)
   own d (HeldBy.honorary e n) = old-was (row-grips s t c (v .inv .formed) r) d e n
-  own d (HeldBy.target f y i) = ⊎-elim (λ j. Gained.was (HeldBy.target f y j)) (λ j. target-was d (j .0) (j .1 .0)) (was-pending (row-fills s t c (v .inv .formed) r) i)
-  own d (HeldBy.value x f i n) = ⊎-elim (λ j. Gained.was (HeldBy.value x f j n)) (λ j. value-was d n (j .0) (j .1 .1)) (was-pending (row-fills s t c (v .inv .formed) r) i)
+  own d (HeldBy.target f y i) = ⊎-elim (λ j. Gained.was (HeldBy.target f y j)) (λ j. let h = field-writes (j .1) in target-was d (h .0) (h .1 .0)) (came (row-fills s t c (v .inv .formed) r) i)
+  own d (HeldBy.value x f i n) = ⊎-elim (λ j. Gained.was (HeldBy.value x f j n)) (λ j. let h = field-writes (j .1) in value-was d n (h .0) (h .1 .1 .1)) (came (row-fills s t c (v .inv .formed) r) i)
 
 pub held-was : HeldWas
 held-was s t c v r p pos mine d h = go (ℕ-discrete p (c .process))

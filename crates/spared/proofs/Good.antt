@@ -24,11 +24,11 @@ use Rattle.claims.proofs.Rules.{Checked}
 use Rattle.claims.proofs.Inv.{row-inv}
 use Rattle.spared.specs.Shades.{Marked}
 use Rattle.spared.specs.Holds.{HeldAt}
-use Rattle.spared.specs.Zones.{quiet, sweeping, deleting}
-use Rattle.spared.specs.Seats.{allSeats, leadsTo}
+use Rattle.spared.specs.Zones.{quiet, inSweep, deleting}
+use Rattle.spared.specs.Seats.{allStations, leadsTo}
 use Rattle.spared.specs.Good.{Good, HeldGood}
 use Rattle.spared.specs.Inv.{Spared}
-use Rattle.spared.specs.Lemmas.{Kept, Gained}
+use Rattle.spared.specs.Lemmas.{RowsKeep, Gained}
 use Rattle.spared.proofs.Paces.{row-mutators}
 use Rattle.spared.proofs.Ruled.{row-ruled}
 use Rattle.spared.proofs.Holds.{held-somewhere, held-there}
@@ -42,16 +42,16 @@ use Rattle.spared.proofs.Quiets.{sweeping-ended, quiet-held}
 
 -- ---- the sweep is entered at row 9's write
 abbrev sweepRule : ℕ → ℕ → ℕ → ℕ → Bool
-sweepRule k j h i = pick (sweeping h) (leb row9Write k) true
+sweepRule k j h i = pick (inSweep h) (leb row9Write k) true
 
 sweep-stays : Checked (λ k j. sweepRule k j k j)
 sweep-stays = ((((((((tt, refl), refl), refl), refl), refl), refl), refl), refl)
 
-sweep-leads : Checked (λ k j. allSeats (λ a. sweepRule k j (a .place) (a .stage)) (leadsTo k j))
+sweep-leads : Checked (λ k j. allStations (λ a. sweepRule k j (a .place) (a .stage)) (leadsTo k j))
 sweep-leads = ((((((((tt, refl), refl), refl), refl), refl), refl), refl), refl)
 
-pub sweeps-from : (s t : State) (c : Choice) → Spared s → Row s c t → sweeping (processOf t 0 .place) ≡ true → leb row9Write (processOf s 0 .place) ≡ true
-sweeps-from s t c v r z = implied (sweeping (processOf t 0 .place)) (row-ruled sweepRule sweep-stays sweep-leads s t c (v .inv .formed) r) z
+pub sweeps-from : (s t : State) (c : Choice) → Spared s → Row s c t → inSweep (processOf t 0 .place) ≡ true → leb row9Write (processOf s 0 .place) ≡ true
+sweeps-from s t c v r z = implied (inSweep (processOf t 0 .place)) (row-ruled sweepRule sweep-stays sweep-leads s t c (v .inv .formed) r) z
 
 -- ---- from row 9's write on
 module _ (s : State) (v : Spared s) (z : leb row9Write (processOf s 0 .place) ≡ true) where
@@ -98,7 +98,7 @@ module _ (s t : State) (c : Choice) (v : Spared s) (r : Row s c t) where
             record { occupied = u; equal = e ∙ alloc-follows s (v .inv) (inl (le-leb row6Round (processOf s 0 .place) (omega arith))) ∙ sym (ended-sense s v y t c r) };
       }
 
-pub step-held : Kept HeldGood
+pub step-held : RowsKeep HeldGood
 step-held s t c v r d h =
     let a = held-somewhere t (row-inv s c t (v .inv) r) d h in
     let mine : a .0 ≤ mutatorsOf s = rw (row-mutators s t c r) at (a .1 .1 .0) in

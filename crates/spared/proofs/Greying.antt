@@ -1,15 +1,14 @@
 -- B3 and B3a are kept: a pending mark is of the cell being greyed, with the noted fM; and that cell is the one that is
 -- marked, at the unlock. Assumes nothing.
 --     step-greying, step-of-marks     after each step
-use mathlib.Core.Path.{_≡_, refl, sym, ap, _∙_}
-use mathlib.Core.Bool.{Bool, true, false, false≢true}
-use mathlib.Core.List.{List, [], List·Memᴰ·append-cases, List·Memᴰ·eq-of-singleton}
+use mathlib.Core.Path.{_≡_, refl, sym, _∙_}
+use mathlib.Core.Bool.{Bool}
+use mathlib.Core.List.{List, []}
 use mathlib.Core.Logic.{_⊎_, inl, inr, ⊎-elim}
 use Prim.Native.Nat.{ℕ}
 use native.Mathlib.Omega.{arith}
 use native.Mathlib.Decide.{ℕ-discrete}
 use Rattle.cells.proofs.Bools.{not-both}
-use Rattle.buffers.specs.declared.Store.{Store}
 use Rattle.buffers.specs.declared.Store.the-variants as store
 use Rattle.buffers.specs.declared.Entry.{Entry}
 use Rattle.memory.specs.declared.Memory.{Memory}
@@ -25,15 +24,15 @@ use Rattle.state.specs.States.{shaking, processOf}
 use Rattle.model.specs.Rows.{unnoted, Marks, Mark, Row}
 use Rattle.model.specs.Reasons.{mover}
 use Rattle.stays_formed.specs.Leaves.{Writes}
-use Rattle.claims.specs.Pending.{waitingOf, isMark, Unlocking}
+use Rattle.claims.specs.Pending.{waitingOf, Unlocking}
 use Rattle.claims.proofs.Moves.{Goes, row-goes, marks-place}
 use Rattle.claims.proofs.Pending.{unlock-inside}
 use Rattle.spared.specs.Holds.{StoreIn}
-use Rattle.spared.specs.Greying.{Pends, Greying, OfMark, OfMarks}
+use Rattle.spared.specs.Greying.{Pends, Greying, GreyOfMark, OfMarks}
 use Rattle.spared.specs.Views.{Fills, Aside}
 use Rattle.spared.specs.Inv.{Spared}
-use Rattle.spared.specs.Lemmas.{Kept}
-use Rattle.spared.proofs.Fills.{row-fills, row-waits}
+use Rattle.spared.specs.Lemmas.{RowsKeep}
+use Rattle.spared.proofs.Fills.{row-fills, row-waits, came}
 use Rattle.spared.proofs.Paces.{row-aside}
 use Rattle.spared.proofs.Marks.{marks-same, mark-store}
 use Rattle.spared.proofs.Acts.{Acts, row-acts, no-store, marks-stage, next-grey}
@@ -48,30 +47,9 @@ unlock-stays {q = q} z u (Goes.outside a b e) = absurd (not-both (unlock-inside 
 unlock-stays z u (Goes.commits e) = inl refl
 
 -- ---- a mark that is written
-abbrev cellOf : Store → ℕ
-cellOf (store.Mark c b) = c
-cellOf (store.Field c f v) = 0
-cellOf (store.Sense b) = 0
-cellOf (store.AllocSense b) = 0
-cellOf (store.Phase h) = 0
-
-abbrev bitOf : Store → Bool
-bitOf (store.Mark c b) = b
-bitOf (store.Field c f v) = false
-bitOf (store.Sense b) = false
-bitOf (store.AllocSense b) = false
-bitOf (store.Phase h) = false
-
 -- the only store of that kind is the mark's own
-writes-mark : {q : Process} {v : Store} → isMark v ≡ true → Writes q v → Marks q (cellOf v) × ((q .stage ≡ writeStage) × (q .sense ≡ bitOf v))
-writes-mark h (Writes.mark i e) = (i, (e, refl))
-writes-mark h (Writes.field a) = absurd (false≢true h)
-writes-mark h (Writes.sense a) = absurd (false≢true h)
-writes-mark h (Writes.init a) = absurd (false≢true h)
-writes-mark h (Writes.marking a) = absurd (false≢true h)
-writes-mark h (Writes.alloc a) = absurd (false≢true h)
-writes-mark h (Writes.sweep a) = absurd (false≢true h)
-writes-mark h (Writes.idle a) = absurd (false≢true h)
+writes-mark : {q : Process} {x : ℕ} {b : Bool} → Writes q (store.Mark x b) → Marks q x × ((q .stage ≡ writeStage) × (q .sense ≡ b))
+writes-mark (Writes.mark i e) = (i, (e, refl))
 
 -- the step of a mark at that stage
 mark-writes : {m n : Memory} {p r : ℕ} {q o : Process} → q .stage ≡ writeStage → Mark m p r q n o → (o .grey ≡ r) × (o .sense ≡ q .sense)
@@ -108,27 +86,24 @@ module _ (s t : State) (c : Choice) (v : Spared s) (r : Row s c t) where
       (unlock-stays (shaped (s .memory) (v .inv .formed .memory)) (mark-store s v p x b h .unlocking) (row-goes (v .inv .formed) r))
 
   own : {k : List Entry} → Fills c (mover s c) (t .memory) (waitingOf s p) k → Pends k (processOf t p)
-  own (Fills.keeps e) x b h = was x b (rw e at h)
-  own (Fills.appends a w e) x b (StoreIn.pends d i y) =
-      ⊎-elim (λ j. was x b (StoreIn.pends d j y))
+  own k x b h =
+      ⊎-elim (was x b)
       (λ j.
-      let z = sym (ap (λ (o : Entry). o .store) (List·Memᴰ·eq-of-singleton j)) ∙ y in
-      let g = writes-mark (rw z refl) w in
-      let f = acts-writes a (g .0) (g .1 .0) (row-acts s t c (v .inv .formed) r) in
-      (f .0 ∙ ap cellOf z, f .1 ∙ g .1 .1 ∙ ap bitOf z))
-      (List·Memᴰ·append-cases (waitingOf s p) (rw e at i))
-  own (Fills.leaves a e i g h d) x b (StoreIn.pends o j y) = was x b (StoreIn.pends o (g o j) y)
+      let g = writes-mark (j .1) in
+      let f = acts-writes (j .0) (g .0) (g .1 .0) (row-acts s t c (v .inv .formed) r) in
+      (f .0, f .1 ∙ g .1 .1))
+      (came k h)
 
   greying-at : (m : ℕ) → Dec (m ≡ p) → Pends (waitingOf t m) (processOf t m)
   greying-at m (yes e) = rw e (own (row-fills s t c (v .inv .formed) r))
   greying-at m (no e) = rw (row-waits s t c (v .inv .formed) r m e) (aside-pends (row-aside s t c (v .inv .formed) r m e) (v .greying m))
 
-pub step-greying : Kept Greying
+pub step-greying : RowsKeep Greying
 step-greying s t c v r m = greying-at s t c v r m (ℕ-discrete m (c .process))
 
 -- ---- B3a
 abbrev Of : Process → Type 0
-Of q = (q .grey ≡ 0 → ⊥) → OfMark q
+Of q = (q .grey ≡ 0 → ⊥) → GreyOfMark q
 
 aside-of : {o u : Process} → Aside o u → Of o → Of u
 aside-of {o} {u} (Aside.aside r i e) h n = let k = h (rw e at n) in rw e (record { marks = go (k .marks); stage = k .stage })
@@ -163,5 +138,5 @@ of-at : (s t : State) (c : Choice) → Spared s → Row s c t → (m : ℕ) → 
 of-at s t c v r m (yes e) = rw e (acts-of (row-acts s t c (v .inv .formed) r) (v .of-marks (c .process)))
 of-at s t c v r m (no e) = aside-of (row-aside s t c (v .inv .formed) r m e) (v .of-marks m)
 
-pub step-of-marks : Kept OfMarks
+pub step-of-marks : RowsKeep OfMarks
 step-of-marks s t c v r m = of-at s t c v r m (ℕ-discrete m (c .process))

@@ -1,6 +1,7 @@
 -- Grey and black cells through a step. Assumes nothing.
 --     grey-stays                   a grey cell stays grey, but for the one that is dropped (L5)
 --     grey-was                     a grey cell was grey, or its mark has just been written
+--     aside-work                   another process keeps its list and the cell that it greys
 --     black-was                    a black cell was black, is the one dropped, or is new (L8)
 use mathlib.Core.Path.{_≡_, refl, sym, subst, _∙_}
 use mathlib.Core.Bool.{Bool, true, false}
@@ -111,7 +112,7 @@ abbrev Dropped : State → Choice → ℕ → Type 0
 Dropped s c d = At row7Drop noStage (mover s c) × ((mover s c .x ≡ d) × (c .process ≡ 0))
 
 -- another process keeps its list and the cell that it greys
-aside-work : {o u : Process} → Aside o u → (u .work ≡ o .work) × (u .grey ≡ o .grey)
+pub aside-work : {o u : Process} → Aside o u → (u .work ≡ o .work) × (u .grey ≡ o .grey)
 aside-work (Aside.aside r i e) = (rw e refl, rw e refl)
 
 row-bound : {s t : State} {c : Choice} → Row s c t → c .process ≤ mutatorsOf s

@@ -20,19 +20,15 @@ use Rattle.verdict.specs.Colours.{listed, gathered}
 use Rattle.claims.specs.Pending.{waitingOf, marksIn}
 use Rattle.spared.specs.Shades.{Marked}
 use Rattle.spared.specs.Listed.{Listed}
-use Rattle.spared.specs.Views.{Turns, Aside}
+use Rattle.spared.specs.Views.{Turns}
 use Rattle.spared.specs.Inv.{Spared}
-use Rattle.spared.specs.Lemmas.{Flip, Greyed, Kept}
+use Rattle.spared.specs.Lemmas.{Flip, Greyed, RowsKeep}
 use Rattle.spared.proofs.Turns.{row-turns}
 use Rattle.spared.proofs.Paces.{row-aside}
 use Rattle.spared.proofs.Shades.{marked-not-white}
 use Rattle.spared.proofs.Flips.{row-sense}
 use Rattle.spared.proofs.Stays.{marked-stays}
-use Rattle.spared.proofs.Greys.{grey-was}
-
--- another process keeps its list
-aside-work : {o u : Process} → Aside o u → u .work ≡ o .work
-aside-work (Aside.aside a b e) = ap (λ (q : Process). q .work) e
+use Rattle.spared.proofs.Greys.{aside-work, grey-was}
 
 module _ (s t : State) (c : Choice) (v : Spared s) (r : Row s c t) where
   -- what is listed after a step was marked before it: it was listed, or the winner's mark is done
@@ -53,7 +49,7 @@ module _ (s t : State) (c : Choice) (v : Spared s) (r : Row s c t) where
 
   list-was : (p x : ℕ) → Dec (p ≡ c .process) → Member (processOf t p .work) x → Marked (s .memory) x
   list-was p x (yes e) i = own-was x (row-turns s t c (v .inv .formed) r) (rw e at i)
-  list-was p x (no e) i = v .listed .listed p x (rw (aside-work (row-aside s t c (v .inv .formed) r p e)) at i)
+  list-was p x (no e) i = v .listed .listed p x (rw (aside-work (row-aside s t c (v .inv .formed) r p e) .0) at i)
 
   -- at the flip nothing is grey, and nothing white that could become so
   none : Flip s t → (x : ℕ) → Greyed s c x → ⊥
@@ -72,5 +68,5 @@ module _ (s t : State) (c : Choice) (v : Spared s) (r : Row s c t) where
         listed = λ p x i. absurd (none f x (grey-was s t c v r x (listed p i)));
       }
 
-pub step-listed : Kept Listed
+pub step-listed : RowsKeep Listed
 step-listed s t c v r = after s t c v r (row-sense s t c v r)

@@ -46,7 +46,7 @@ use Rattle.spared.specs.Holds.{StoreIn}
 use Rattle.spared.specs.Looked.{Looks, Looked}
 use Rattle.spared.specs.Views.{Effect, Fills, Aside}
 use Rattle.spared.specs.Inv.{Spared}
-use Rattle.spared.specs.Lemmas.{Flip, Kept}
+use Rattle.spared.specs.Lemmas.{Flip, RowsKeep}
 use Rattle.spared.proofs.Effects.{row-effect}
 use Rattle.spared.proofs.Fills.{row-fills, row-waits}
 use Rattle.spared.proofs.Paces.{row-aside}
@@ -301,5 +301,5 @@ module _ (s t : State) (c : Choice) (v : Spared s) (r : Row s c t) where
   looked-at p (yes e) = rw e (own (waitingOf t (c .process)) (sym (pending-is (t .memory) (c .process))) (row-fills s t c (v .inv .formed) r) (row-acts s t c (v .inv .formed) r))
   looked-at p (no e) = aside-looks (row-aside s t c (v .inv .formed) r p e) (stays p (waitingOf t p) (λ x. was p (row-waits s t c (v .inv .formed) r p e)))
 
-pub step-looked : Kept Looked
+pub step-looked : RowsKeep Looked
 step-looked s t c v r p = looked-at s t c v r p (ℕ-discrete p (c .process))

@@ -23,7 +23,7 @@ use Rattle.spared.specs.Zones.{storePlaces}
 use Rattle.spared.specs.Notes.{NotesOf, Notes}
 use Rattle.spared.specs.Views.{Aside}
 use Rattle.spared.specs.Inv.{Spared}
-use Rattle.spared.specs.Lemmas.{Kept}
+use Rattle.spared.specs.Lemmas.{RowsKeep}
 use Rattle.spared.proofs.Arrivals.{After, arrives}
 use Rattle.spared.proofs.Paces.{row-aside, row-mutators}
 
@@ -126,5 +126,5 @@ module _ (s : State) (c : Choice) (v : Spared s) where
       named (λ i. NotesOf (processOf t i)) (d ∙ e) (arrives (omega arith) (row-kept s c (v .inv .formed) (Row.mutator x e pos mine r)) (mutator-noted s c p (v .notes p pos mine) r))
   step-at (Row.commits x e mine y h) m a b (yes d) = v .notes m a b
 
-pub step-notes : Kept Notes
+pub step-notes : RowsKeep Notes
 step-notes s t c v r m a b = step-at s c v r m a (rw (row-mutators s t c r) at b) (ℕ-discrete m (c .process))

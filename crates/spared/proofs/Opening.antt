@@ -30,7 +30,7 @@ use Rattle.claims.proofs.Moves.{marks-place}
 use Rattle.claims.proofs.Inv.{opening-inv}
 use Rattle.spared.specs.Shades.{AllMarked, NoGrey}
 use Rattle.spared.specs.Holds.{StoreIn, HeldBy, HeldAt}
-use Rattle.spared.specs.Zones.{storePlaces, insertPlaces, fencedPlaces, rootPlaces, inHand, region, sweeping}
+use Rattle.spared.specs.Zones.{storePlaces, insertPlaces, fencedPlaces, rootPlaces, inHand, region, inSweep}
 use Rattle.spared.specs.Good.{Good, Closed}
 use Rattle.spared.specs.Looked.{Looks}
 use Rattle.spared.specs.Barriers.{Barrier}
@@ -196,5 +196,5 @@ module _ (h : Heap) where
           barriers = λ p a b. barrier p a;
           snapshot = λ i. absurd (off region refl i);
           scanned = record { listed = λ i. absurd (off (λ k j. inHand k) refl i); occupied = λ i. absurd (none-marks 0 i); scanned = λ i. absurd (off (λ k j. inHand k) refl i) };
-          swept = record { swept = λ i. absurd (off (λ k j. sweeping k) refl i); white = λ e. absurd (off (λ k j. eqb k row10Free) refl (rw e refl)) };
+          swept = record { swept = λ i. absurd (off (λ k j. inSweep k) refl i); white = λ e. absurd (off (λ k j. eqb k row10Free) refl (rw e refl)) };
         }

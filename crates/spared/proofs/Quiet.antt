@@ -20,9 +20,9 @@ use Rattle.claims.proofs.Moves.{marks-place}
 use Rattle.claims.proofs.Handshakes.{settled-handshakes}
 use Rattle.spared.specs.Shades.{NoGrey}
 use Rattle.spared.specs.Zones.{quiet, gathers}
-use Rattle.spared.specs.Ends.{Quiet}
+use Rattle.spared.specs.Ends.{QuietZone}
 use Rattle.spared.specs.Inv.{Spared}
-use Rattle.spared.specs.Lemmas.{Greyed, Kept}
+use Rattle.spared.specs.Lemmas.{Greyed, RowsKeep}
 use Rattle.spared.proofs.Shades.{marked-not-white}
 use Rattle.spared.proofs.Holds.{mark-held}
 use Rattle.spared.proofs.Quiets.{quiet-held}
@@ -66,7 +66,7 @@ module _ (s : State) (v : Spared s) where
       let a = taken c k in
       none-gathered s v (a .0) (k .none) (v .ends (a .0) (k .none) (λ m i j e. absurd (false≢true (sym e ∙ ap (λ (x : Part). x .in_step) (settled-handshakes s (v .inv .handshakes) (a .1) m i j)))))
 
-pub step-quiet : Kept Quiet
+pub step-quiet : RowsKeep QuietZone
 step-quiet s t c v r q d h = go (row-begins s t c (v .inv .formed) r .ended q) (grey-was s t c v r d h)
   where
     go : (quiet (processOf s 0 .place) (processOf s 0 .stage) ≡ true) ⊎ TakesNone s c (processOf s 0) → Greyed s c d → ⊥

@@ -2,7 +2,7 @@
 --     step-rested      after each row
 use mathlib.Core.Path.{_≡_, refl, sym, ap, subst, _∙_}
 use mathlib.Core.Bool.{Bool, true, false, not, false≢true}
-use mathlib.Core.List.{List, [], _∷_, List·Memᴰ, List·Memᴰ·head, List·Memᴰ·tail, List·Memᴰ·append-cases, List·Memᴰ·eq-of-singleton}
+use mathlib.Core.List.{List, [], _∷_, List·Memᴰ, List·Memᴰ·head, List·Memᴰ·tail}
 use mathlib.Core.Logic.{_⊎_, inl, inr, ⊎-elim, by-cases}
 use Prim.Native.Nat.{ℕ}
 use native.Mathlib.Omega.{arith}
@@ -38,11 +38,11 @@ use Rattle.spared.specs.Shades.{Marked, AllMarked}
 use Rattle.spared.specs.Holds.{StoreIn}
 use Rattle.spared.specs.Zones.{rests}
 use Rattle.spared.specs.Rested.{Rested}
-use Rattle.spared.specs.Views.{Effect, Fills}
+use Rattle.spared.specs.Views.{Effect}
 use Rattle.spared.specs.Inv.{Spared}
-use Rattle.spared.specs.Lemmas.{Flip, Kept}
+use Rattle.spared.specs.Lemmas.{Flip, RowsKeep}
 use Rattle.spared.proofs.Effects.{row-effect}
-use Rattle.spared.proofs.Fills.{row-fills, row-waits}
+use Rattle.spared.proofs.Fills.{row-fills, row-waits, came}
 use Rattle.spared.proofs.Sights.{sweep-mark, sweep-free}
 use Rattle.spared.proofs.Eras.{alloc-follows, scan-noted, flip-waits}
 use Rattle.spared.proofs.Shades.{marked-or-white, marked-not-white}
@@ -138,12 +138,6 @@ effect-sense k (Effect.frees a u b j w s) = s .fm
 sense-writes : {q : Process} {b : Bool} → Writes q (store.Sense b) → At row2Write noStage q
 sense-writes (Writes.sense a) = a
 
-was-pending : {c : Choice} {q : Process} {n : Memory} {l k : List Entry} {b : Bool} → Fills c q n l k → StoreIn k (store.Sense b) → (StoreIn l (store.Sense b)) ⊎ At row2Write noStage q
-was-pending (Fills.keeps e) i = inl (rw e at i)
-was-pending {q = q} {l = l} (Fills.appends z w e) (StoreIn.pends d i g) =
-    ⊎-elim (λ j. inl (StoreIn.pends d j g)) (λ j. inr (sense-writes (subst (Writes q) (ap (λ (h : Entry). h .store) (sym (List·Memᴰ·eq-of-singleton j)) ∙ g) w))) (List·Memᴰ·append-cases l (rw e at i))
-was-pending (Fills.leaves z e h u m a) (StoreIn.pends d i g) = inl (StoreIn.pends d (u d i) g)
-
 module _ (s t : State) (c : Choice) (v : Spared s) (r : Row s c t) where
   -- but at row 3's fence fM stays
   sense-stays : (flippedOf (stretchOf (processOf s 0 .place)) ≡ true → ⊥) → t .memory .fm ≡ s .memory .fm
@@ -185,7 +179,7 @@ module _ (s t : State) (c : Choice) (v : Spared s) (r : Row s c t) where
   waited {b} i = go (ℕ-discrete 0 (c .process))
     where
       go : Dec (0 ≡ c .process) → (StoreIn (waitingOf s 0) (store.Sense b)) ⊎ At row2Write noStage (processOf s 0)
-      go (yes z) = named (λ p. (StoreIn (waitingOf s p) (store.Sense b)) ⊎ At row2Write noStage (processOf s p)) z (was-pending (row-fills s t c (v .inv .formed) r) (subst (λ p. StoreIn (waitingOf t p) (store.Sense b)) z i))
+      go (yes z) = named (λ p. (StoreIn (waitingOf s p) (store.Sense b)) ⊎ At row2Write noStage (processOf s p)) z (⊎-elim inl (λ w. inr (sense-writes (w .1))) (came (row-fills s t c (v .inv .formed) r) (subst (λ p. StoreIn (waitingOf t p) (store.Sense b)) z i)))
       go (no z) = inl (rw (row-waits s t c (v .inv .formed) r 0 z) at i)
 
   flip-marked : {b : Bool} → StoreIn (waitingOf t 0) (store.Sense b) → AllMarked (t .memory)
@@ -201,7 +195,7 @@ module _ (s t : State) (c : Choice) (v : Spared s) (r : Row s c t) where
       go (inl j) = stay-marked (sensed j (row-sense s t c v r)) (sense-waits s (v .inv) j .same) (v .rested .flip j)
       go (inr a) = rest-marked (rw (a .place) refl)
 
-pub step-rested : Kept Rested
+pub step-rested : RowsKeep Rested
 step-rested s t c v r =
     record {
       at = λ h. ⊎-elim (rest-marked s t c v r) (last-marked s t c v r) (row-begins s t c (v .inv .formed) r .swept h);

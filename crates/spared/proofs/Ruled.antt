@@ -11,10 +11,10 @@ use Rattle.state.specs.States.{processOf}
 use Rattle.formed.specs.Fits.{WellFormed}
 use Rattle.model.specs.Rows.{Row}
 use Rattle.claims.proofs.Rules.{Checked, ruled}
-use Rattle.spared.specs.Seats.{allSeats, leadsTo, Seated}
+use Rattle.spared.specs.Seats.{allStations, leadsTo, Seated}
 use Rattle.spared.proofs.Seats.{led, row-seated}
 
-pub row-ruled : (rule : ℕ → ℕ → ℕ → ℕ → Bool) → Checked (λ k j. rule k j k j) → Checked (λ k j. allSeats (λ a. rule k j (a .place) (a .stage)) (leadsTo k j)) →
+pub row-ruled : (rule : ℕ → ℕ → ℕ → ℕ → Bool) → Checked (λ k j. rule k j k j) → Checked (λ k j. allStations (λ a. rule k j (a .place) (a .stage)) (leadsTo k j)) →
     (s t : State) (c : Choice) → WellFormed s → Row s c t → rule (processOf s 0 .place) (processOf s 0 .stage) (processOf t 0 .place) (processOf t 0 .stage) ≡ true
 row-ruled rule a b s t c w r = go (processOf t 0) (row-seated s t c w r)
   where

@@ -35,12 +35,12 @@ use Rattle.claims.proofs.Processes.{arrived}
 use Rattle.claims.proofs.Rules.{Checked, ruled}
 use Rattle.claims.proofs.Answering.{implied}
 use Rattle.claims.proofs.Moves.{marks-place}
-use Rattle.spared.specs.Shades.{Marked, Safe, Covered}
+use Rattle.spared.specs.Shades.{Marked, NullOrMarked, Covered}
 use Rattle.spared.specs.Zones.{inHand, quiet}
-use Rattle.spared.specs.Scanned.{Scans, Scanned}
+use Rattle.spared.specs.Scanned.{ScannedBy, Scanned}
 use Rattle.spared.specs.Views.{Aside}
 use Rattle.spared.specs.Inv.{Spared}
-use Rattle.spared.specs.Lemmas.{Flip, Kept}
+use Rattle.spared.specs.Lemmas.{Flip, RowsKeep}
 use Rattle.spared.proofs.Paces.{row-aside}
 use Rattle.spared.proofs.Sights.{scan-field}
 use Rattle.spared.proofs.Flips.{row-sense}
@@ -72,7 +72,7 @@ not-quiet : (s : State) → WellFormed s → inHand (processOf s 0 .place) ≡ t
 not-quiet s w i e = not-true e (implied (inHand (processOf s 0 .place)) (ruled quietRule quiet-rule s w) i)
 
 -- ---- where none is in hand and none is marked
-away : {m : Memory} (o : Process) {k : ℕ} → o .place ≡ k → inHand k ≡ false → markPlace k ≡ false → Scans m o
+away : {m : Memory} (o : Process) {k : ℕ} → o .place ≡ k → inHand k ≡ false → markPlace k ≡ false → ScannedBy m o
 away o e a b = record { listed = λ i. absurd (not-both i (rw e a)); occupied = λ i. absurd (not-both (marks-place i) (rw e b)); scanned = λ i. absurd (not-both i (rw e a)) }
 
 record Apart (k : ℕ) : Type 0 where
@@ -117,7 +117,7 @@ module _ (s : State) (v : Spared s) where
       go (FieldAfter.blank h j) = absurd (not-early s (v .inv .formed) i h)
 
   -- another's step, and a commit
-  aside-scans : (t : State) {o : Process} → ((d : ℕ) → Marked (s .memory) d → Marked (t .memory) d) → ((d g : ℕ) → FieldAfter s t d g) → ((d : ℕ) → Marks q d → usedOf (t .memory) d ≡ true) → Aside q o → Scans (t .memory) o
+  aside-scans : (t : State) {o : Process} → ((d : ℕ) → Marked (s .memory) d → Marked (t .memory) d) → ((d g : ℕ) → FieldAfter s t d g) → ((d : ℕ) → Marks q d → usedOf (t .memory) d ≡ true) → Aside q o → ScannedBy (t .memory) o
   aside-scans t stays fields used (Aside.aside r i e) =
       rw e (record {
         listed = v .scanned .listed;
@@ -146,7 +146,7 @@ module _ (s : State) (v : Spared s) where
   mark-used t used (Onward.fields e f) m = absurd (false≢true (rw f at (marks-place m)))
   mark-used t used (Onward.field e f) m = absurd (false≢true (rw f at (marks-place m)))
 
-  mark-scans : (t : State) {r : ℕ} {o : Process} → ((d : ℕ) → Marked (s .memory) d → Marked (t .memory) d) → ((d g : ℕ) → FieldAfter s t d g) → ((d : ℕ) → Marks q d → usedOf (t .memory) d ≡ true) → Marks q r → Mark (s .memory) 0 r q (t .memory) o → Scans (t .memory) o
+  mark-scans : (t : State) {r : ℕ} {o : Process} → ((d : ℕ) → Marked (s .memory) d → Marked (t .memory) d) → ((d g : ℕ) → FieldAfter s t d g) → ((d : ℕ) → Marks q d → usedOf (t .memory) d ≡ true) → Marks q r → Mark (s .memory) 0 r q (t .memory) o → ScannedBy (t .memory) o
   mark-scans t {r} {o} stays fields used m e =
       record {
         listed = λ a. subst (Member (o .work)) (sym (k .x)) (k .work (q .x) (v .scanned .listed (hand-before (k .way) a)));
@@ -178,18 +178,18 @@ module _ (s : State) (v : Spared s) where
   read-marks o e f u (Marks.root i) = absurd (omega arith)
   read-marks o e f u (Marks.field i) = rw f u
 
-  read-covers : (o : Process) (x f l : ℕ) → f < maxFields → Covered (s .memory) o (fieldOf (s .memory) x f) → ((g : ℕ) → g < maxFields → memberOf l (fieldLeft g) ≡ false → Safe (s .memory) (fieldOf (s .memory) x g)) →
+  read-covers : (o : Process) (x f l : ℕ) → f < maxFields → Covered (s .memory) o (fieldOf (s .memory) x f) → ((g : ℕ) → g < maxFields → memberOf l (fieldLeft g) ≡ false → NullOrMarked (s .memory) (fieldOf (s .memory) x g)) →
       (g : ℕ) → g < maxFields → memberOf (removeOf l (fieldLeft f)) (fieldLeft g) ≡ false → Covered (s .memory) o (fieldOf (s .memory) x g)
   read-covers o x f l a k old g b h = ⊎-elim (λ e. subst (λ i. Covered (s .memory) o (fieldOf (s .memory) x i)) e k) (λ i. Covered.safe (old g b i)) (without l f g a b h)
 
   -- at the first read all were left; at the next no mark is on
-  first-left : (x g : ℕ) → g < maxFields → memberOf allFields (fieldLeft g) ≡ false → Safe (s .memory) (fieldOf (s .memory) x g)
+  first-left : (x g : ℕ) → g < maxFields → memberOf allFields (fieldLeft g) ≡ false → NullOrMarked (s .memory) (fieldOf (s .memory) x g)
   first-left x g l h = absurd (not-both (full-has maxFields (g + 1) (omega arith) (omega arith) (omega arith)) (rw (field-is g l) at h))
 
-  next-left : q .place ≡ row7Next → (g : ℕ) → g < maxFields → memberOf (q .left) (fieldLeft g) ≡ false → Safe (s .memory) (fieldOf (s .memory) (q .x) g)
+  next-left : q .place ≡ row7Next → (g : ℕ) → g < maxFields → memberOf (q .left) (fieldLeft g) ≡ false → NullOrMarked (s .memory) (fieldOf (s .memory) (q .x) g)
   next-left a g l h = go (v .scanned .scanned (rw a refl) g l h)
     where
-      go : Covered (s .memory) q (fieldOf (s .memory) (q .x) g) → Safe (s .memory) (fieldOf (s .memory) (q .x) g)
+      go : Covered (s .memory) q (fieldOf (s .memory) (q .x) g) → NullOrMarked (s .memory) (fieldOf (s .memory) (q .x) g)
       go (Covered.safe k) = k
       go (Covered.now k) = absurd (false≢true (rw a at (marks-place k)))
 
@@ -198,7 +198,7 @@ module _ (s : State) (v : Spared s) where
 
 -- ---- its own step: it is o after it, and memory is that of x
 data Ended : State → Type 0 where
-  ended : (x : State) (o : Process) → Scans (x .memory) o → Ended (withProcess x 0 o)
+  ended : (x : State) (o : Process) → ScannedBy (x .memory) o → Ended (withProcess x 0 o)
 
 module _ (s : State) (c : Choice) (v : Spared s) where
   plain : {k : ℕ} (x : State) (o : Process) → o .place ≡ k → inHand k ≡ false → markPlace k ≡ false → Ended (withProcess x 0 o)
@@ -302,5 +302,5 @@ module _ (s : State) (c : Choice) (v : Spared s) where
       same : processOf t 0 ≡ processOf s 0
       same = ap (λ l. getD l 0 noProcess) (f .procs)
 
-pub step-scanned : Kept Scanned
+pub step-scanned : RowsKeep Scanned
 step-scanned s t c v r = ⊎-elim (λ e. stays-scanned s c v e r) (flip-scanned s c v) (row-sense s t c v r)

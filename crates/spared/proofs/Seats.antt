@@ -27,31 +27,31 @@ use Rattle.stays_formed.proofs.Collector.{round-place}
 use Rattle.stays_formed.proofs.Kept.{row-kept}
 use Rattle.claims.proofs.Rules.{Checked, ruled}
 use Rattle.spared.specs.Views.{Aside}
-use Rattle.spared.specs.Seats.{Seat, seat, amongSeats, allSeats, leadsTo, Leads, Seated}
+use Rattle.spared.specs.Seats.{Station, station, amongStations, allStations, leadsTo, LeadsOn, Seated}
 use Rattle.spared.specs.Lemmas.{RowSeated}
 use Rattle.spared.proofs.Arrivals.{After, arrives}
 use Rattle.spared.proofs.Paces.{row-aside}
 
 -- ---- rules
-all-seats : (t : Seat → Bool) (l : List Seat) → allSeats t l ≡ true → (h i : ℕ) → amongSeats h i l ≡ true → t (seat h i) ≡ true
+all-seats : (t : Station → Bool) (l : List Station) → allStations t l ≡ true → (h i : ℕ) → amongStations h i l ≡ true → t (station h i) ≡ true
 all-seats t [] a h i b = absurd (false≢true b)
-all-seats t (x ∷ l) a h i b = let k = and-both (t x) (allSeats t l) a in go (eqb h (x .place)) (eqb i (x .stage)) refl refl (k .0) (all-seats t l (k .1) h i) b
+all-seats t (x ∷ l) a h i b = let k = and-both (t x) (allStations t l) a in go (eqb h (x .place)) (eqb i (x .stage)) refl refl (k .0) (all-seats t l (k .1) h i) b
   where
-    go : (d e : Bool) → eqb h (x .place) ≡ d → eqb i (x .stage) ≡ e → t x ≡ true → (amongSeats h i l ≡ true → t (seat h i) ≡ true) → pick (d && e) true (amongSeats h i l) ≡ true → t (seat h i) ≡ true
+    go : (d e : Bool) → eqb h (x .place) ≡ d → eqb i (x .stage) ≡ e → t x ≡ true → (amongStations h i l ≡ true → t (station h i) ≡ true) → pick (d && e) true (amongStations h i l) ≡ true → t (station h i) ≡ true
     go true true d e y f g = rw (eqb-true h (x .place) d, eqb-true i (x .stage) e) y
     go true false d e y f g = f g
     go false z d e y f g = f g
 
-pub led : (t : ℕ → ℕ → ℕ → ℕ → Bool) → Checked (λ k j. allSeats (λ a. t k j (a .place) (a .stage)) (leadsTo k j)) → (s : State) → WellFormed s → (h i : ℕ) → Leads (processOf s 0 .place) (processOf s 0 .stage) h i → t (processOf s 0 .place) (processOf s 0 .stage) h i ≡ true
+pub led : (t : ℕ → ℕ → ℕ → ℕ → Bool) → Checked (λ k j. allStations (λ a. t k j (a .place) (a .stage)) (leadsTo k j)) → (s : State) → WellFormed s → (h i : ℕ) → LeadsOn (processOf s 0 .place) (processOf s 0 .stage) h i → t (processOf s 0 .place) (processOf s 0 .stage) h i ≡ true
 led t c s w =
     let q = processOf s 0 in
-    all-seats (λ a. t (q .place) (q .stage) (a .place) (a .stage)) (leadsTo (q .place) (q .stage)) (ruled (λ k j. allSeats (λ a. t k j (a .place) (a .stage)) (leadsTo k j)) c s w)
+    all-seats (λ a. t (q .place) (q .stage) (a .place) (a .stage)) (leadsTo (q .place) (q .stage)) (ruled (λ k j. allStations (λ a. t k j (a .place) (a .stage)) (leadsTo k j)) c s w)
 
 -- ---- a round
-in-round : (j i : ℕ) → allOf (λ k. amongSeats k i (leadsTo k j)) roundPlaces ≡ true → {k h l : ℕ} {t : RoundType} → Round k t h l → Leads k j k i
-in-round j i c {k} r = all-true (λ k. amongSeats k i (leadsTo k j)) roundPlaces c k (round-place r)
+in-round : (j i : ℕ) → allOf (λ k. amongStations k i (leadsTo k j)) roundPlaces ≡ true → {k h l : ℕ} {t : RoundType} → Round k t h l → LeadsOn k j k i
+in-round j i c {k} r = all-true (λ k. amongStations k i (leadsTo k j)) roundPlaces c k (round-place r)
 
-round-over : {k h l : ℕ} {t : RoundType} → Round k t h l → Leads k pollStage h l
+round-over : {k h l : ℕ} {t : RoundType} → Round k t h l → LeadsOn k pollStage h l
 round-over Round.row1 = refl
 round-over Round.row3 = refl
 round-over Round.row4 = refl
@@ -66,7 +66,7 @@ scans f (Marks.new e) = absurd (omega (arith, collector-within f .0))
 scans f (Marks.root e) = absurd (omega (arith, collector-within f .0))
 scans f (Marks.field e) = e
 
-next-leads : (j : ℕ) {x t : Process} → Leads row7Mark j row7Next noStage → Leads row7Mark j row7Drop noStage → x .place ≡ row7Mark → Next x t → Leads row7Mark j (t .place) (t .stage)
+next-leads : (j : ℕ) {x t : Process} → LeadsOn row7Mark j row7Next noStage → LeadsOn row7Mark j row7Drop noStage → x .place ≡ row7Mark → Next x t → LeadsOn row7Mark j (t .place) (t .stage)
 next-leads j a b z (Next.write e h) = absurd (omega arith)
 next-leads j a b z (Next.new e h) = absurd (omega arith)
 next-leads j a b z (Next.marked e) = absurd (omega arith)
@@ -75,7 +75,7 @@ next-leads j a b z (Next.root e h) = absurd (omega arith)
 next-leads j a b z (Next.fields e h) = b
 next-leads j a b z (Next.field e h) = a
 
-mark-leads : {m n : Memory} {p r : ℕ} {q t : Process} → q .place ≡ row7Mark → Mark m p r q n t → Leads row7Mark (q .stage) (t .place) (t .stage)
+mark-leads : {m n : Memory} {p r : ℕ} {q t : Process} → q .place ≡ row7Mark → Mark m p r q n t → LeadsOn row7Mark (q .stage) (t .place) (t .stage)
 unfolding unnoted
 mark-leads z (Mark.looks e g) = rw (z, e) refl
 mark-leads z (Mark.equal e g h) = rw e (next-leads senseStage refl refl z h)
@@ -91,7 +91,7 @@ mark-leads z (Mark.loses e g h v) = rw e (next-leads unlockStage refl refl z v)
 
 -- ---- each row of the collector
 module _ (s : State) (c : Choice) (own : c .kind ≡ 0) (mine : c .process ≡ 0) (q : Process) {n m : ℕ} (f : CollectorFits n m q) where
-  on : {k j : ℕ} (x : State) (o : Process) → At k j q → Leads k j (o .place) (o .stage) → After (Seated c q) 0 (withProcess x 0 o)
+  on : {k j : ℕ} (x : State) (o : Process) → At k j q → LeadsOn k j (o .place) (o .stage) → After (Seated c q) 0 (withProcess x 0 o)
   on x o a h = After.after x o (Seated.leads own mine (rw (a .place, a .stage) h))
 
   here : (x : State) (o : Process) → o .place ≡ q .place → o .stage ≡ q .stage → After (Seated c q) 0 (withProcess x 0 o)

@@ -40,7 +40,7 @@ use Rattle.claims.specs.Inv.{Inv}
 use Rattle.claims.proofs.Written.{sees-sense}
 use Rattle.claims.proofs.Noted.{misses, sees-phase}
 use Rattle.spared.specs.Holds.{StoreIn, FieldIn}
-use Rattle.spared.specs.Lemmas.{ScanField, SweepMark, SweepFree, LookMark, LookUsed, LookField, LookSense, LookIdle}
+use Rattle.spared.specs.Lemmas.{ScanField, SweepMark, SweptFree, LookMark, LookUsed, LookField, LookSense, LookIdle}
 use Rattle.spared.proofs.Marks.{mark-counts}
 use Rattle.spared.proofs.Eras.{Sends, SendsOf, collector-sends, mark-phase}
 
@@ -85,7 +85,7 @@ look-mark s v p c b n e = seen-mark (s .memory) p c (sees-memory s p (spot.Mark 
 swept : (m : Memory) (p c : ℕ) (w : Swept) → lookSweptOf m p c ≡ w → w .no ≡ 0 → blockedOf m p ≡ false
 swept m p c w e z = look-swept-no m p c .second .0 (ap (λ (i : Swept). i .no) e ∙ z)
 
-pub sweep-free : SweepFree
+pub sweep-free : SweptFree
 sweep-free m p c e = go (split (usedOf m c))
   where
     go : (usedOf m c ≡ true) ⊎ (usedOf m c ≡ false) → usedOf m c ≡ false

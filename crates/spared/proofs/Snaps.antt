@@ -16,7 +16,7 @@ use Rattle.formed.specs.Fits.{WellFormed}
 use Rattle.model.specs.Rows.{At, Row}
 use Rattle.reach.specs.Reach.{here, via}
 use Rattle.claims.specs.Pending.{waitingOf}
-use Rattle.spared.specs.Shades.{Marked, Safe, Snap}
+use Rattle.spared.specs.Shades.{Marked, NullOrMarked, Snap}
 use Rattle.spared.specs.Zones.{region}
 use Rattle.spared.specs.Inv.{Spared}
 use Rattle.spared.specs.Lemmas.{SnapStays}
@@ -48,7 +48,7 @@ snap-stays s t c v r z x k = go k
     occupied : (d : ℕ) → usedOf (s .memory) d ≡ true → usedOf (t .memory) d ≡ true
     occupied d u = ⊎-elim (λ e. e) (λ h. absurd (freed (c .process) (h .1 .1) (h .0))) (used-or-freed s t c v r d u)
 
-    lost : (d e : ℕ) → Safe (s .memory) e → e ≡ d → 0 < d → Snap (t .memory) d
+    lost : (d e : ℕ) → NullOrMarked (s .memory) e → e ≡ d → 0 < d → Snap (t .memory) d
     lost d e (inl i) j n = absurd (omega arith)
     lost d e (inr i) j n = marked d (rw j at i)
 

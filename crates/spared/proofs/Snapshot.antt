@@ -37,10 +37,10 @@ use Rattle.spared.specs.Shades.{Marked, Covered, Snap}
 use Rattle.spared.specs.Holds.{HeldBy, HeldAt}
 use Rattle.spared.specs.Zones.{region}
 use Rattle.spared.specs.Views.{Paces, Aside}
-use Rattle.spared.specs.Seats.{allSeats, leadsTo, Seated}
+use Rattle.spared.specs.Seats.{allStations, leadsTo, Seated}
 use Rattle.spared.specs.Snapshot.{Snapshot}
 use Rattle.spared.specs.Inv.{Spared}
-use Rattle.spared.specs.Lemmas.{Kept, Gained}
+use Rattle.spared.specs.Lemmas.{RowsKeep, Gained}
 use Rattle.spared.proofs.Paces.{row-paces, row-aside, row-mutators}
 use Rattle.spared.proofs.Seats.{led, row-seated}
 use Rattle.spared.proofs.Holds.{held-there}
@@ -70,7 +70,7 @@ later-rule = ((((((((tt, refl), refl), refl), refl), refl), refl), refl), refl)
 abbrev enterRule : ℕ → ℕ → ℕ → ℕ → Bool
 enterRule k j h i = pick (region h i) (pick (region k j) true (not (busyOf k j) and not (sweepingOf (postedOf k j)))) true
 
-enter-leads : Checked (λ k j. allSeats (λ a. enterRule k j (a .place) (a .stage)) (leadsTo k j))
+enter-leads : Checked (λ k j. allStations (λ a. enterRule k j (a .place) (a .stage)) (leadsTo k j))
 enter-leads = ((((((((tt, refl), refl), refl), refl), refl), refl), refl), refl)
 
 unless : (b : Bool) {a : Bool} → pick b true a ≡ true → b ≡ false → a ≡ true
@@ -135,7 +135,7 @@ module _ (s t : State) (c : Choice) (v : Spared s) (r : Row s c t) (m : ℕ) (po
           let i = aside-phase (row-aside s t c (v .inv .formed) r m (λ n. omega arith)) in
           not-both (ap sweepingOf (sym h ∙ sym i ∙ e)) (not-true (sweepingOf (postedOf (q .place) (q .stage))) (b .1))
 
-pub step-snapshot : Kept Snapshot
+pub step-snapshot : RowsKeep Snapshot
 step-snapshot s t c v r z m pos mine e d h = go (split (region (processOf s 0 .place) (processOf s 0 .stage)))
   where
     there : m ≤ mutatorsOf s

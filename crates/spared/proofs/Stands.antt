@@ -32,7 +32,7 @@ use Rattle.stays_formed.proofs.Frames.{named}
 use Rattle.stays_formed.proofs.Kept.{row-kept}
 use Rattle.claims.specs.Pending.{waitingOf}
 use Rattle.claims.proofs.Processes.{arrived}
-use Rattle.spared.specs.Shades.{Marked, Safe, Covered}
+use Rattle.spared.specs.Shades.{Marked, NullOrMarked, Covered}
 use Rattle.spared.specs.Zones.{storePlaces, insertPlaces, rootPlaces, inserting, deleting}
 use Rattle.spared.specs.Barriers.{Barrier}
 use Rattle.spared.specs.Views.{Aside}
@@ -156,7 +156,7 @@ module _ (s : State) (v : Spared s) (p : ℕ) (pos : 0 < p) (mine : p ≤ mutato
       cover i = mark-covers m (mark-over s v p r mine (λ _. i) m first) stays e
 
   -- the old value that a store reads is memory's, or memory's is null or marked
-  reads-old : (x f : ℕ) {w : ℕ} → f ≤ 1 → lookFieldOf (s .memory) p x f ≡ seesValue w → deleting (q .part .phase) ≡ true → (w ≡ fieldOf (s .memory) x f) ⊎ Safe (s .memory) (fieldOf (s .memory) x f)
+  reads-old : (x f : ℕ) {w : ℕ} → f ≤ 1 → lookFieldOf (s .memory) p x f ≡ seesValue w → deleting (q .part .phase) ≡ true → (w ≡ fieldOf (s .memory) x f) ⊎ NullOrMarked (s .memory) (fieldOf (s .memory) x f)
   reads-old x f {w} l e d = ⊎-elim inl (λ i. inr (before .deleted d x f w i)) (look-field s p x f w (omega arith) e)
 
   reads-null : {o : Process} (x f : ℕ) → f ≤ 1 → lookFieldOf (s .memory) p x f ≡ seesValue 0 → deleting (q .part .phase) ≡ true → Covered (s .memory) o (fieldOf (s .memory) x f)

@@ -38,11 +38,11 @@ use Rattle.claims.proofs.Rules.{Checked, ruled}
 use Rattle.claims.proofs.Answering.{implied}
 use Rattle.spared.specs.Shades.{Marked}
 use Rattle.spared.specs.Holds.{StoreIn}
-use Rattle.spared.specs.Zones.{sweeping, deleting}
-use Rattle.spared.specs.Swept.{Sweeps, Swept}
+use Rattle.spared.specs.Zones.{inSweep, deleting}
+use Rattle.spared.specs.Swept.{SweptBy, SweptMarked}
 use Rattle.spared.specs.Views.{Effect, Aside}
 use Rattle.spared.specs.Inv.{Spared}
-use Rattle.spared.specs.Lemmas.{Flip, Kept}
+use Rattle.spared.specs.Lemmas.{Flip, RowsKeep}
 use Rattle.spared.proofs.Effects.{row-effect}
 use Rattle.spared.proofs.Paces.{row-aside}
 use Rattle.spared.proofs.Sights.{sweep-mark, sweep-free}
@@ -54,22 +54,22 @@ use Rattle.spared.proofs.Quiets.{sweeping-ended}
 
 -- ---- the sweep is past row 9, and so past row 6
 abbrev pastRule : ℕ → ℕ → Bool
-pastRule k j = pick (sweeping k) (leb row9Write k) true
+pastRule k j = pick (inSweep k) (leb row9Write k) true
 
 past-rule : Checked pastRule
 past-rule = ((((((((tt, refl), refl), refl), refl), refl), refl), refl), refl)
 
 abbrev markingRule : ℕ → ℕ → Bool
-markingRule k j = pick (sweeping k) (leb row6Round k) true
+markingRule k j = pick (inSweep k) (leb row6Round k) true
 
 marking-rule : Checked markingRule
 marking-rule = ((((((((tt, refl), refl), refl), refl), refl), refl), refl), refl)
 
 -- ---- where no sweep is on
-away : {m : Memory} (o : Process) {k : ℕ} → o .place ≡ k → sweeping k ≡ false → Sweeps m o
-away o e a = record { swept = λ i. absurd (not-both i (rw e a)); white = λ h. absurd (let i : sweeping (o .place) ≡ true = rw h refl in not-both i (rw e a)) }
+away : {m : Memory} (o : Process) {k : ℕ} → o .place ≡ k → inSweep k ≡ false → SweptBy m o
+away o e a = record { swept = λ i. absurd (not-both i (rw e a)); white = λ h. absurd (let i : inSweep (o .place) ≡ true = rw h refl in not-both i (rw e a)) }
 
-round-away : {k j l : ℕ} {t : RoundType} → Round k t j l → (sweeping k ≡ false) × (sweeping j ≡ false)
+round-away : {k j l : ℕ} {t : RoundType} → Round k t j l → (inSweep k ≡ false) × (inSweep j ≡ false)
 round-away Round.row1 = (refl, refl)
 round-away Round.row3 = (refl, refl)
 round-away Round.row4 = (refl, refl)
@@ -77,13 +77,13 @@ round-away Round.row5 = (refl, refl)
 round-away Round.row6 = (refl, refl)
 round-away Round.row8 = (refl, refl)
 
-marks-away : {q : Process} {r : ℕ} → Marks q r → sweeping (q .place) ≡ false
+marks-away : {q : Process} {r : ℕ} → Marks q r → inSweep (q .place) ≡ false
 marks-away (Marks.old e) = rw e refl
 marks-away (Marks.new e) = rw e refl
 marks-away (Marks.root e) = rw e refl
 marks-away (Marks.field e) = rw e refl
 
-onward-away : {q o : Process} {r : ℕ} → Marks q r → Onward q o → sweeping (o .place) ≡ false
+onward-away : {q o : Process} {r : ℕ} → Marks q r → Onward q o → inSweep (o .place) ≡ false
 onward-away m (Onward.on e f) = rw e (marks-away m)
 onward-away m (Onward.write e f z) = rw f refl
 onward-away m (Onward.new e f) = rw f refl
@@ -132,15 +132,15 @@ module _ (s t : State) (c : Choice) (v : Spared s) (r : Row s c t) (same : t .me
   mark-stays k d g h (Effect.allocates a o i f u e z b j w y) = by-cases (ℕ-discrete d (c .x)) (λ n. absurd (not-both g (rw n f))) (λ n. j d n)
   mark-stays k d g h (Effect.frees a u b j w z) = by-cases (ℕ-discrete d (mover s c .x)) (λ n. absurd (not-both h (rw n u))) (λ n. j d n)
 
-  aside-sweeps : {o : Process} → ((d : ℕ) → usedOf (s .memory) d ≡ true → usedOf (t .memory) d ≡ true) → Aside q o → Sweeps (t .memory) o
+  aside-sweeps : {o : Process} → ((d : ℕ) → usedOf (s .memory) d ≡ true → usedOf (t .memory) d ≡ true) → Aside q o → SweptBy (t .memory) o
   aside-sweeps used (Aside.aside f i e) =
       rw e (record {
         swept = λ h d u. ⊎-elim (λ g. still d (v .swept .swept h d g)) (λ g. inr (inl g)) (used-was (follows h) d u known);
         white = λ h. white-still h (v .swept .white h);
       })
     where
-      follows : sweeping (q .place) ≡ true → s .memory .fa ≡ s .memory .fm
-      follows h = alloc-follows s (v .inv) (inl (implied (sweeping (q .place)) (ruled markingRule marking-rule s (v .inv .formed)) h))
+      follows : inSweep (q .place) ≡ true → s .memory .fa ≡ s .memory .fm
+      follows h = alloc-follows s (v .inv) (inl (implied (inSweep (q .place)) (ruled markingRule marking-rule s (v .inv .formed)) h))
 
       still : (d : ℕ) → (Member (q .left) d) ⊎ ((Marked (s .memory) d) ⊎ ((q .place ≡ row10Free) × (q .x ≡ d))) → (Member (q .left) d) ⊎ ((Marked (t .memory) d) ⊎ ((q .place ≡ row10Free) × (q .x ≡ d)))
       still d (inl g) = inl g
@@ -155,10 +155,10 @@ module _ (s t : State) (c : Choice) (v : Spared s) (r : Row s c t) (same : t .me
 
 -- ---- the collector's own step: it is o after it, and memory is that of x
 data Ended : State → Type 0 where
-  ended : (x : State) (o : Process) → Sweeps (x .memory) o → Ended (withProcess x 0 o)
+  ended : (x : State) (o : Process) → SweptBy (x .memory) o → Ended (withProcess x 0 o)
 
 module _ (s : State) (c : Choice) (v : Spared s) where
-  plain : {k : ℕ} (x : State) (o : Process) → o .place ≡ k → sweeping k ≡ false → Ended (withProcess x 0 o)
+  plain : {k : ℕ} (x : State) (o : Process) → o .place ≡ k → inSweep k ≡ false → Ended (withProcess x 0 o)
   plain x o e a = Ended.ended x o (away o e a)
 
   noted : processOf s 0 .place ≡ row10Look → processOf s 0 .sense ≡ s .memory .fm
@@ -230,11 +230,11 @@ module _ (s : State) (c : Choice) (v : Spared s) where
   own-sweeps z u (Collector.writes-idle a b {m} e) = plain (withMemory s m) _ refl refl
 
 -- ---- a step
-arrives : {t : State} → WellFormed t → Ended t → Swept t
+arrives : {t : State} → WellFormed t → Ended t → SweptMarked t
 arrives g (Ended.ended x o h) = rw (arrived x 0 o (omega arith) g) h
 
 module _ (s : State) (c : Choice) (v : Spared s) where
-  stays-swept : {t : State} → t .memory .fm ≡ s .memory .fm → Row s c t → Swept t
+  stays-swept : {t : State} → t .memory .fm ≡ s .memory .fm → Row s c t → SweptMarked t
   stays-swept {t} e (Row.collector x z r) =
       let w = Row.collector x z r in
       let g = row-kept s c (v .inv .formed) w in
@@ -247,17 +247,17 @@ module _ (s : State) (c : Choice) (v : Spared s) where
       aside-sweeps s t c v w e (commit-used x (row-used w)) (Aside.aside _ _ refl)
 
   -- the sweep runs with all in IdleMarkSweep, and there is a mutator
-  flip-swept : {t : State} → Flip s t → Swept t
+  flip-swept : {t : State} → Flip s t → SweptMarked t
   flip-swept {t} f = rw same (record { swept = λ i. absurd (none i); white = λ e. absurd (none (rw e refl)) })
     where
       same : processOf t 0 ≡ processOf s 0
       same = ap (λ l. getD l 0 noProcess) (f .procs)
 
-      none : sweeping (processOf s 0 .place) ≡ true → ⊥
+      none : inSweep (processOf s 0 .place) ≡ true → ⊥
       none i =
-          let k = implied (sweeping (processOf s 0 .place)) (ruled pastRule past-rule s (v .inv .formed)) i in
+          let k = implied (inSweep (processOf s 0 .place)) (ruled pastRule past-rule s (v .inv .formed)) i in
           let some : 1 ≤ mutatorsOf s = omega (arith, v .inv .formed .memory .some-processes) in
           false≢true (ap deleting (sym (f .idle 1 (omega arith) some) ∙ sweeping-ended s v k .0 1 (omega arith) some))
 
-pub step-swept : Kept Swept
+pub step-swept : RowsKeep SweptMarked
 step-swept s t c v r = ⊎-elim (λ e. stays-swept s c v e r) (flip-swept s c v) (row-sense s t c v r)

@@ -19,11 +19,11 @@ use Rattle.model.specs.Reasons.{mover}
 use Rattle.reach.specs.Reach.{Names}
 use Rattle.verdict.specs.Colours.{White, Black}
 use Rattle.claims.specs.Pending.{waitingOf}
-use Rattle.spared.specs.Shades.{Safe, Covered}
+use Rattle.spared.specs.Shades.{NullOrMarked, Covered}
 use Rattle.spared.specs.Holds.{FieldIn}
 use Rattle.spared.specs.Tricolour.{Tricolour}
 use Rattle.spared.specs.Inv.{Spared}
-use Rattle.spared.specs.Lemmas.{Flip, Kept}
+use Rattle.spared.specs.Lemmas.{Flip, RowsKeep}
 use Rattle.spared.proofs.Effects.{row-effect}
 use Rattle.spared.proofs.Shades.{marked-not-white, black-marked}
 use Rattle.spared.proofs.Flips.{row-sense}
@@ -35,7 +35,7 @@ use Rattle.spared.proofs.Names.{names-at, Named, names-were}
 -- ---- where fM stays
 module _ (s t : State) (c : Choice) (v : Spared s) (r : Row s c t) (e : t .memory .fm ≡ s .memory .fm) (x d : ℕ) (black : Black t x) (white : White (t .memory) d) (pos : 0 < d) where
   -- d was not safe
-  unsafe : Safe (s .memory) d → ⊥
+  unsafe : NullOrMarked (s .memory) d → ⊥
   unsafe (inl z) = omega arith
   unsafe (inr k) = marked-not-white (marked-stays s t c v r e d k) white
 
@@ -60,7 +60,7 @@ module _ (s t : State) (c : Choice) (v : Spared s) (r : Row s c t) (e : t .memor
       idle (Marks.field k) = omega (arith, a .place)
 
       go : Covered (s .memory) (processOf s 0) (fieldOf (s .memory) (processOf s 0 .x) (names-at n .0)) → ⊥
-      go (Covered.safe k) = unsafe (subst (Safe (s .memory)) (ap (λ y. fieldOf (s .memory) y (names-at n .0)) i ∙ names-at n .1 .1 .0) k)
+      go (Covered.safe k) = unsafe (subst (NullOrMarked (s .memory)) (ap (λ y. fieldOf (s .memory) y (names-at n .0)) i ∙ names-at n .1 .1 .0) k)
       go (Covered.now k) = idle k
   dropped a i (Named.stored y f h l) = false≢true (rw (a .place) at (stored y f h .1))
 
@@ -71,7 +71,7 @@ module _ (s t : State) (c : Choice) (v : Spared s) (r : Row s c t) (e : t .memor
       dropped (subst (λ i. At row7Drop noStage (processOf s i)) (k .1) a) (subst (λ i. processOf s i .x ≡ x) (k .1) (k .0)) (names-were x d (row-effect s t c (v .inv .formed) r) (black .occupied) n)
   none (inr (inr k)) n = let h = names-at n in omega (arith, k .1 (h .0), h .1 .1 .0, pos)
 
-pub step-tricolour : Kept Tricolour
+pub step-tricolour : RowsKeep Tricolour
 step-tricolour s t c v r x k = go (row-sense s t c v r)
   where
     go : (t .memory .fm ≡ s .memory .fm) ⊎ Flip s t → ⊥

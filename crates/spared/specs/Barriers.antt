@@ -12,7 +12,7 @@ use Rattle.state.specs.declared.State.{State}
 use Rattle.state.specs.States.{mutatorsOf, processOf}
 use Rattle.formed.specs.Fits.{Among}
 use Rattle.claims.specs.Pending.{waitingOf}
-use Rattle.spared.specs.Shades.{Safe, Covered}
+use Rattle.spared.specs.Shades.{NullOrMarked, Covered}
 use Rattle.spared.specs.Holds.{FieldIn}
 use Rattle.spared.specs.Zones.{storePlaces, insertPlaces, rootPlaces, inserting, deleting}
 
@@ -20,10 +20,10 @@ use Rattle.spared.specs.Zones.{storePlaces, insertPlaces, rootPlaces, in
 pub record Barrier (m : Memory) (l : List Entry) (q : Process) : Type 0 where
   -- B14, "mark y": what it stores is marked, from InitMark on
   pub inserts : inserting (q .part .phase) ≡ true → Among (q .place) insertPlaces → Covered m q (q .y)
-  pub inserted : inserting (q .part .phase) ≡ true → (c f v : ℕ) → FieldIn l c f v → Safe m v
+  pub inserted : inserting (q .part .phase) ≡ true → (c f v : ℕ) → FieldIn l c f v → NullOrMarked m v
   -- B15, "mark the old": what it overwrites is marked, from Mark on
   pub deletes : deleting (q .part .phase) ≡ true → Among (q .place) storePlaces → Covered m q (fieldOf m (q .x) (q .f))
-  pub deleted : deleting (q .part .phase) ≡ true → (c f v : ℕ) → FieldIn l c f v → Safe m (fieldOf m c f)
+  pub deleted : deleting (q .part .phase) ≡ true → (c f v : ℕ) → FieldIn l c f v → NullOrMarked m (fieldOf m c f)
   -- B16, "for roots, mark each root": those gone through are marked
   pub roots : Among (q .place) rootPlaces → (c : ℕ) → Member (q .roots) c → memberOf (q .left) c ≡ false → Covered m q c
 

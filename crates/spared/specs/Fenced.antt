@@ -8,5 +8,5 @@ use Rattle.spared.specs.Holds.{NoField}
 use Rattle.spared.specs.Zones.{fencedPlaces}
 
 -- "Answer: read the type; fence": past its fence an answering mutator has no field store pending
-abbrev pub Fenced : State → Type 0
-Fenced s = (m : ℕ) → 0 < m → m ≤ mutatorsOf s → Among (processOf s m .place) fencedPlaces → NoField (waitingOf s m)
+abbrev pub PastFence : State → Type 0
+PastFence s = (m : ℕ) → 0 < m → m ≤ mutatorsOf s → Among (processOf s m .place) fencedPlaces → NoField (waitingOf s m)

@@ -8,12 +8,12 @@ use Rattle.state.specs.States.{processOf}
 use Rattle.reach.specs.Held.{Held}
 use Rattle.reach.specs.Reach.{Names}
 use Rattle.spared.specs.Shades.{Marked}
-use Rattle.spared.specs.Zones.{sweeping}
+use Rattle.spared.specs.Zones.{inSweep}
 
 -- occupied, and marked while the sweep runs
 pub record Good (s : State) (c : ℕ) : Type 0 where
   pub occupied : usedOf (s .memory) c ≡ true
-  pub marked : sweeping (processOf s 0 .place) ≡ true → Marked (s .memory) c
+  pub marked : inSweep (processOf s 0 .place) ≡ true → Marked (s .memory) c
 
 -- B11: no held reference is free, and none is white while the sweep runs
 abbrev pub HeldGood : State → Type 0

@@ -21,9 +21,9 @@ abbrev pub Greying : State → Type 0
 Greying s = (p : ℕ) → Pends (waitingOf s p) (processOf s p)
 
 -- B3a: the cell being greyed is the one that is marked, and its mark is at the unlock
-pub record OfMark (q : Process) : Type 0 where
+pub record GreyOfMark (q : Process) : Type 0 where
   pub marks : Marks q (q .grey)
   pub stage : q .stage ≡ unlockStage
 
 abbrev pub OfMarks : State → Type 0
-OfMarks s = (p : ℕ) → (processOf s p .grey ≡ 0 → ⊥) → OfMark (processOf s p)
+OfMarks s = (p : ℕ) → (processOf s p .grey ≡ 0 → ⊥) → GreyOfMark (processOf s p)

@@ -1,14 +1,12 @@
 -- The lemmas of the published claim, as statements: S of a state, L of a step. Assumes nothing.
 use mathlib.Core.Path.{_≡_}
 use mathlib.Core.Bool.{Bool, true, false}
-use mathlib.Core.List.{List, [], _∷_}
+use mathlib.Core.List.{[], _∷_}
 use mathlib.Core.Logic.{_⊎_}
 use Prim.Native.Nat.{ℕ, _+_, _≤_, _<_}
 use lib.Dec.{leb}
-use Rattle.cells.specs.Sets.{Member}
 use Rattle.buffers.specs.declared.Phase.the-variants as phase
 use Rattle.buffers.specs.declared.Store.the-variants as store
-use Rattle.buffers.specs.declared.Entry.{Entry}
 use Rattle.buffers.specs.Fits.{maxFields}
 use Rattle.memory.specs.declared.Memory.{Memory}
 use Rattle.memory.specs.Memories.{taken, usedOf, markOf, fieldOf}
@@ -28,16 +26,16 @@ use Rattle.reach.specs.Held.{Held}
 use Rattle.verdict.specs.Colours.{White, Grey, Black}
 use Rattle.claims.specs.Pending.{waitingOf, Unlocking}
 use Rattle.claims.specs.Inv.{Inv}
-use Rattle.spared.specs.Shades.{Marked, Safe, AllMarked, NoGrey, Snap}
+use Rattle.spared.specs.Shades.{Marked, NullOrMarked, AllMarked, NoGrey, Snap}
 use Rattle.spared.specs.Holds.{StoreIn, FieldIn, HeldAt, Every}
-use Rattle.spared.specs.Zones.{rests, quiet, region, scanning, inserting, deleting}
+use Rattle.spared.specs.Zones.{rests, quiet, region, inScan, inserting, deleting}
 use Rattle.spared.specs.Views.{Effect, Fills, Turns, Grips, Paces, Aside}
 use Rattle.spared.specs.Seats.{Seated}
 use Rattle.spared.specs.Inv.{Spared}
 
 -- every row keeps P, given the whole
-abbrev pub Kept : (State → Type 0) → Type 0
-Kept P = (s t : State) (c : Choice) → Spared s → Row s c t → P t
+abbrev pub RowsKeep : (State → Type 0) → Type 0
+RowsKeep P = (s t : State) (c : Choice) → Spared s → Row s c t → P t
 
 -- ---- views: every row is of one of the kinds
 abbrev pub RowEffect : Type 0
@@ -76,8 +74,8 @@ ScanField = (s : State) → Inv s → (c f v : ℕ) → lookFieldOf (s .memory) 
 abbrev pub SweepMark : Type 0
 SweepMark = (s : State) → Inv s → processOf s 0 .place ≡ row10Look → (c : ℕ) (b : Bool) → lookSweptOf (s .memory) 0 c ≡ findsMark b → (usedOf (s .memory) c ≡ true) × (markOf (s .memory) c ≡ b)
 
-abbrev pub SweepFree : Type 0
-SweepFree = (m : Memory) (p c : ℕ) → lookSweptOf m p c ≡ findsFree → usedOf m c ≡ false
+abbrev pub SweptFree : Type 0
+SweptFree = (m : Memory) (p c : ℕ) → lookSweptOf m p c ≡ findsFree → usedOf m c ≡ false
 
 -- anybody's look at a mark, but at its unlock
 abbrev pub LookMark : Type 0
@@ -124,12 +122,12 @@ abbrev pub EraOf : Type 0
 EraOf = (s : State) → Spared s → Era s
 
 -- S6: in phase Idle all is marked, or nobody inserts
-abbrev pub IdlePhase : Type 0
-IdlePhase = (s : State) → Spared s → s .memory .phase .phase ≡ phase.Idle → AllMarked (s .memory) ⊎ Every s (λ q. inserting (q .part .phase) ≡ false)
+abbrev pub IdleMarked : Type 0
+IdleMarked = (s : State) → Spared s → s .memory .phase .phase ≡ phase.Idle → AllMarked (s .memory) ⊎ Every s (λ q. inserting (q .part .phase) ≡ false)
 
 -- S8, S10, S12, S14: by the collector's place
 abbrev pub Scanning : Type 0
-Scanning = (s : State) → Inv s → scanning (processOf s 0 .place) ≡ true → Every s (λ q. q .part .phase ≡ hand.IdleMarkSweep)
+Scanning = (s : State) → Inv s → inScan (processOf s 0 .place) ≡ true → Every s (λ q. q .part .phase ≡ hand.IdleMarkSweep)
 
 pub record Rooting (s : State) (q : Process) : Type 0 where
   pub handshake : q .part .phase ≡ hand.Mark
@@ -237,7 +235,7 @@ MarkOver = (s : State) → Spared s → (p r : ℕ) → p ≤ mutatorsOf s → (
 
 -- L11: the value of a field store is null or marked, or the era is blank
 abbrev pub ValueSafe : Type 0
-ValueSafe = (s : State) → Spared s → (p c f v : ℕ) → FieldIn (waitingOf s p) c f v → (Safe (s .memory) v) ⊎ ((s .memory .fa ≡ s .memory .fm → ⊥) × ((leb (processOf s 0 .place) row5Round ≡ true) × Every s (λ q. deleting (q .part .phase) ≡ false)))
+ValueSafe = (s : State) → Spared s → (p c f v : ℕ) → FieldIn (waitingOf s p) c f v → (NullOrMarked (s .memory) v) ⊎ ((s .memory .fa ≡ s .memory .fm → ⊥) × ((leb (processOf s 0 .place) row5Round ≡ true) × Every s (λ q. deleting (q .part .phase) ≡ false)))
 
 -- L12: what is held was held, is named by a field of what was held, or is new
 pub data Gained (s t : State) (p d : ℕ) : Type 0 where

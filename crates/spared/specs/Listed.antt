@@ -6,7 +6,7 @@ use Rattle.cells.specs.Sets.{noCells, Member}
 use Rattle.state.specs.declared.State.{State}
 use Rattle.state.specs.States.{processOf}
 use Rattle.spared.specs.Shades.{Marked}
-use Rattle.spared.specs.Zones.{scanning}
+use Rattle.spared.specs.Zones.{inScan}
 
 -- B5: a listed cell is marked
 pub record Listed (s : State) : Type 0 where
@@ -15,4 +15,4 @@ pub record Listed (s : State) : Type 0 where
 
 -- B9: outside row 7 the collector's list is empty
 abbrev pub Unlisted : State → Type 0
-Unlisted s = scanning (processOf s 0 .place) ≡ false → processOf s 0 .work ≡ noCells
+Unlisted s = inScan (processOf s 0 .place) ≡ false → processOf s 0 .work ≡ noCells

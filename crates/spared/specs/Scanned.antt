@@ -16,10 +16,10 @@ use Rattle.spared.specs.Zones.{inHand}
 
 -- the collector q: its x is on its list, the cell that it marks is occupied, and each field of x that is not left is
 -- null, marked or the cell that it marks
-pub record Scans (m : Memory) (q : Process) : Type 0 where
+pub record ScannedBy (m : Memory) (q : Process) : Type 0 where
   pub listed : inHand (q .place) ≡ true → Member (q .work) (q .x)
   pub occupied : {r : ℕ} → Marks q r → usedOf m r ≡ true
   pub scanned : inHand (q .place) ≡ true → (g : ℕ) → g < maxFields → memberOf (q .left) (fieldLeft g) ≡ false → Covered m q (fieldOf m (q .x) g)
 
 abbrev pub Scanned : State → Type 0
-Scanned s = Scans (s .memory) (processOf s 0)
+Scanned s = ScannedBy (s .memory) (processOf s 0)

@@ -17,12 +17,12 @@ pub record Marked (m : Memory) (c : ℕ) : Type 0 where
   pub equal : markOf m c ≡ m .fm
 
 -- null or marked
-abbrev pub Safe : Memory → ℕ → Type 0
-Safe m v = (v ≡ 0) ⊎ Marked m v
+abbrev pub NullOrMarked : Memory → ℕ → Type 0
+NullOrMarked m v = (v ≡ 0) ⊎ Marked m v
 
 -- null, marked, or the cell that q is marking
 pub data Covered (m : Memory) (q : Process) (v : ℕ) : Type 0 where
-  safe : Safe m v → Covered m q v
+  safe : NullOrMarked m v → Covered m q v
   now : Marks q v → Covered m q v
 
 -- of all cells

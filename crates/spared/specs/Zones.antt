@@ -24,8 +24,8 @@ abbrev pub rootPlaces : List ℕ
 rootPlaces = rootsMark ∷ rootsFinish ∷ []
 
 -- row 7, and row 7 with its x in hand
-abbrev pub scanning : ℕ → Bool
-scanning place = amongOf place (row7First ∷ row7Mark ∷ row7Next ∷ row7Drop ∷ [])
+abbrev pub inScan : ℕ → Bool
+inScan place = amongOf place (row7First ∷ row7Mark ∷ row7Next ∷ row7Drop ∷ [])
 
 abbrev pub inHand : ℕ → Bool
 inHand place = amongOf place (row7Mark ∷ row7Next ∷ row7Drop ∷ [])
@@ -47,8 +47,8 @@ abbrev pub region : ℕ → ℕ → Bool
 region place stage = (eqb place row6Round && leb raiseStage stage) || (leb row6Take place && leb place row9Write)
 
 -- row 10
-abbrev pub sweeping : ℕ → Bool
-sweeping place = eqb place row10Look || eqb place row10Free
+abbrev pub inSweep : ℕ → Bool
+inSweep place = eqb place row10Look || eqb place row10Free
 
 -- "a handshake phase for .. each mutator": what it stores is marked from InitMark on, what it overwrites from Mark on
 abbrev pub inserting : Handshake → Bool
