@@ -2,6 +2,7 @@
 -- Assumes nothing.
 --     After, arrives     process p is replaced by one of which P holds; so P holds of process p
 --     row-after          for every row, by the collector's rows, a mutator's, and a commit, which leaves the process
+use mathlib.Core.Path.{_≡_, refl}
 use Prim.Native.Nat.{ℕ, _≤_, _<_}
 use native.Mathlib.Omega.{arith}
 use Rattle.memory.specs.Memories.{maxProcesses}
@@ -23,10 +24,10 @@ pub arrives : {P : Process → Type 0} {p : ℕ} {t : State} → p < maxProcesse
 arrives {p = p} l g (After.after x o h) = rw (arrived x p o l g) h
 
 module _ (P : ℕ → Process → Type 0) (s : State) (c : Choice) (w : WellFormed s) where
-  pub row-after : {t : State} → (WellFormed t → Collector s c 0 (processOf s 0) t → P 0 (processOf t 0)) → ((p : ℕ) → 0 < p → p ≤ mutatorsOf s → Mutator s c p (processOf s p) t → After (P p) p t) → P (c .process) (mover s c) →
+  pub row-after : {t : State} → (WellFormed t → Collector s c 0 (processOf s 0) t → P 0 (processOf t 0)) → ((p : ℕ) → 0 < p → p ≤ mutatorsOf s → Mutator s c p (processOf s p) t → After (P p) p t) → (t .system ≡ s .system → P (c .process) (mover s c)) →
       Row s c t → P (c .process) (processOf t (c .process))
   row-after {t} f g h (Row.collector k e r) = named (λ i. P i (processOf t i)) e (f (row-kept s c w (Row.collector k e r)) r)
   row-after {t} f g h (Row.mutator k {p} e pos mine r) =
       let few = w .memory .few-processes in
       named (λ i. P i (processOf t i)) e (arrives (omega arith) (row-kept s c w (Row.mutator k e pos mine r)) (g p pos mine r))
-  row-after f g h (Row.commits k e mine b m) = h
+  row-after f g h (Row.commits k e mine b m) = h refl

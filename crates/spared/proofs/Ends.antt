@@ -136,16 +136,16 @@ data Own (s t : State) (q o : Process) : Type 0 where
   noop : At noopFinish noStage q → Own s t q o
   gives : (At rootsFinish noStage q) ⊎ (At workFinish noStage q) → t .system .work ≡ unionOf (s .system .work) (q .work) → o .work ≡ noCells → o .grey ≡ q .grey → Own s t q o
 
-own : {s t : State} {q o : Process} {w : ℕ} {l : List Entry} → q .place ≤ workFinish → Joins s t q o → Turns w l q o → Own s t q o
+own : {s t : State} {q o : Process} {w u : ℕ} {l : List Entry} → q .place ≤ workFinish → Joins s t q o → Turns w u l q o → Own s t q o
 own k (Joins.same e) h = rw e (Own.keeps refl refl refl)
-own k (Joins.keeps e n) (Turns.keeps f g) = Own.keeps e f g
-own k (Joins.keeps e n) (Turns.greys i j f z g) = Own.greys i j e g
-own k (Joins.keeps e n) (Turns.wins i j z y f g) = Own.wins i j y e f
-own k (Joins.keeps e n) (Turns.gives (inl a) f g) = absurd (false≢true (rw (a .place) at (sym n)))
-own k (Joins.keeps e n) (Turns.gives (inr a) f g) = absurd (false≢true (rw (a .place) at (sym n)))
-own k (Joins.keeps e n) (Turns.takes (inl a) f g) = absurd (omega (arith, a .place))
-own k (Joins.keeps e n) (Turns.takes (inr a) f g) = absurd (omega (arith, a .place))
-own k (Joins.keeps e n) (Turns.drops a f g) = absurd (omega (arith, a .place))
+own k (Joins.keeps e n) (Turns.keeps f g z) = Own.keeps e f g
+own k (Joins.keeps e n) (Turns.greys i j f z g y) = Own.greys i j e g
+own k (Joins.keeps e n) (Turns.wins i j z y f g x) = Own.wins i j y e f
+own k (Joins.keeps e n) (Turns.gives (inl a) f g z) = absurd (false≢true (rw (a .place) at (sym n)))
+own k (Joins.keeps e n) (Turns.gives (inr a) f g z) = absurd (false≢true (rw (a .place) at (sym n)))
+own k (Joins.keeps e n) (Turns.takes (inl a) f g z) = absurd (omega (arith, a .place))
+own k (Joins.keeps e n) (Turns.takes (inr a) f g z) = absurd (omega (arith, a .place))
+own k (Joins.keeps e n) (Turns.drops a f g z) = absurd (omega (arith, a .place))
 own k (Joins.noop a) h = Own.noop a
 own k (Joins.gives a e f g) h = Own.gives a e f g
 

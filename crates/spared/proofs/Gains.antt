@@ -1,7 +1,6 @@
 -- What is held after a step. Assumes nothing.
 --     held-was     it was held, is named by a field of what was held, or is new (L12)
 use mathlib.Core.Path.{_≡_, refl, sym, ap, subst, _∙_}
-use mathlib.Core.Bool.{true, false≢true}
 use mathlib.Core.List.{List}
 use mathlib.Core.Logic.{_⊎_, ⊎-elim}
 use Prim.Native.Nat.{ℕ, _≤_, _<_}
@@ -11,22 +10,16 @@ use Rattle.cells.specs.Sets.{Member}
 use Rattle.cells.proofs.Members.{member-pos, in-add, in-remove}
 use Rattle.buffers.specs.declared.Entry.{Entry}
 use Rattle.buffers.specs.Fits.{maxFields}
-use Rattle.memory.specs.Memories.{usedOf, markOf}
 use Rattle.memory.specs.Looks.{lookFieldOf}
-use Rattle.memory.proofs.Effects.{allocate-taken}
-use Rattle.memory_formed.proofs.Shapes.{shaped}
 use Rattle.state.specs.declared.Process.{Process}
 use Rattle.state.specs.declared.State.{State}
 use Rattle.state.specs.declared.Choice.{Choice}
-use Rattle.state.specs.Codes.{top, storeWrite, noStage}
+use Rattle.state.specs.Codes.{storeWrite, noStage}
 use Rattle.state.specs.States.{mutatorsOf, processOf}
-use Rattle.formed.specs.Fits.{WellFormed}
-use Rattle.formed.proofs.Gives.{collector-within}
-use Rattle.model.specs.Rows.{At, seesValue, Marks, Mutator, Row}
+use Rattle.model.specs.Rows.{At, seesValue, Row}
 use Rattle.model.specs.Reasons.{mover}
 use Rattle.stays_formed.proofs.Frames.{named}
 use Rattle.claims.specs.Pending.{waitingOf}
-use Rattle.claims.proofs.Moves.{marks-place}
 use Rattle.spared.specs.Holds.{FieldIn, HeldBy, HeldAt}
 use Rattle.spared.specs.Views.{Grips, Aside}
 use Rattle.spared.specs.Inv.{Spared}
@@ -36,40 +29,6 @@ use Rattle.spared.proofs.Grips.{row-grips}
 use Rattle.spared.proofs.Paces.{row-aside}
 use Rattle.spared.proofs.Sights.{look-field}
 use Rattle.spared.proofs.Names.{names-by}
-
--- ---- the cell that is allocated
-abbrev New : State → Choice → State → Type 0
-New s c t = (usedOf (t .memory) (c .x) ≡ true) × (markOf (t .memory) (c .x) ≡ s .memory .fa)
-
-not-top : {q : Process} {r : ℕ} → Marks q r → At top noStage q → ⊥
-not-top i a = false≢true (rw (a .place) at (marks-place i))
-
-module _ (s : State) (c : Choice) (w : WellFormed s) (p : ℕ) (q : Process) where
-  mutator-made : {t : State} → Mutator s c p q t → At top noStage q → c .op ≡ 0 → New s c t
-  mutator-made (Mutator.allocates a o x l g y e) b z = let k = allocate-taken p (c .x) (shaped (s .memory) (w .memory)) x (omega (arith, l, w .memory .few-cells)) e .after in (k .used, k .mark)
-  mutator-made (Mutator.drops a o m g y) b z = absurd (omega arith)
-  mutator-made (Mutator.reads a o m g y e h) b z = absurd (omega arith)
-  mutator-made (Mutator.reads-null a o m g y e) b z = absurd (omega arith)
-  mutator-made (Mutator.stores a o m g y e h) b z = absurd (omega arith)
-  mutator-made (Mutator.stores-new a o m g y e) b z = absurd (omega arith)
-  mutator-made (Mutator.stores-null a o m g y e) b z = absurd (omega arith)
-  mutator-made (Mutator.fences a o x g y e) b z = absurd (omega arith)
-  mutator-made (Mutator.answers a o x g y u k) b z = absurd (omega arith)
-  mutator-made (Mutator.marks k i h e) b z = absurd (not-top i b)
-  mutator-made (Mutator.looks-root a o m e) b z = absurd (omega (arith, a .place, b .place))
-  mutator-made (Mutator.writes a k e) b z = absurd (omega (arith, a .place, b .place))
-  mutator-made (Mutator.fences-noop a k e) b z = absurd (omega (arith, a .place, b .place))
-  mutator-made (Mutator.fences-work a k e) b z = absurd (omega (arith, a .place, b .place))
-  mutator-made (Mutator.fences-roots a k e h) b z = absurd (omega (arith, a .place, b .place))
-  mutator-made (Mutator.fences-none a k e h) b z = absurd (omega (arith, a .place, b .place))
-  mutator-made (Mutator.finishes-noop a k) b z = absurd (omega (arith, a .place, b .place))
-  mutator-made (Mutator.finishes-roots a k) b z = absurd (omega (arith, a .place, b .place))
-  mutator-made (Mutator.finishes-work a k) b z = absurd (omega (arith, a .place, b .place))
-
-made : (s : State) (c : Choice) {t : State} → WellFormed s → Row s c t → At top noStage (mover s c) → c .op ≡ 0 → 0 < c .x → New s c t
-made s c {t} w (Row.collector k e r) a z n = named (λ i. At top noStage (processOf s i) → New s c t) e (λ b. absurd (omega (arith, collector-within (w .collector) .0, b .place))) a
-made s c {t} w (Row.mutator k {p} e pos mine r) a z n = named (λ i. At top noStage (processOf s i) → New s c t) e (λ b. mutator-made s c w p (processOf s p) r b z) a
-made s c w (Row.commits k e mine b h) a z n = absurd (omega (arith, b .x))
 
 -- ---- a process whose roots, old value and pending stores stay
 still : {q o : Process} {l k : List Entry} {d : ℕ} → o .roots ≡ q .roots → o .old ≡ q .old → k ≡ l → HeldBy o k d → HeldBy q l d
@@ -89,20 +48,17 @@ module _ (s t : State) (c : Choice) (v : Spared s) (r : Row s c t) (pos : 0 < c 
       ⊎-elim (λ h. Gained.named x (HeldBy.root i) (names-by (s .memory) x d f l (sym h ∙ z) n)) (λ h. Gained.was (HeldBy.value x f (subst (FieldIn (waitingOf s (c .process)) x f) z h) n))
       (look-field s (c .process) x f w l e)
 
-  roots-were : {o : Process} → Grips s c (c .process) (mover s c) o → (d : ℕ) → Member (o .roots) d → 0 < d → Gained s t (c .process) d
+  roots-were : {o : Process} → Grips s t c (c .process) (mover s c) o → (d : ℕ) → Member (o .roots) d → 0 < d → Gained s t (c .process) d
   roots-were (Grips.keeps e f) d i n = Gained.was (HeldBy.root (rw e at i))
-  roots-were (Grips.allocates a z u e f) d i n = ⊎-elim (λ j. Gained.was (HeldBy.root j)) (λ j. subst (Gained s t (c .process)) j (new (made s c (v .inv .formed) r a z (omega arith)))) (in-add (mover s c .roots) (c .x) d (rw e at i))
-    where
-      new : New s c t → Gained s t (c .process) (c .x)
-      new h = Gained.fresh (h .0) (h .1)
+  roots-were (Grips.allocates a z u y b e f) d i n = ⊎-elim (λ j. Gained.was (HeldBy.root j)) (λ j. subst (Gained s t (c .process)) j (Gained.fresh y b)) (in-add (mover s c .roots) (c .x) d (rw e at i))
   roots-were (Grips.drops a e f) d i n = Gained.was (HeldBy.root (in-remove (mover s c .roots) (c .x) d (rw e at i) .0))
   roots-were (Grips.reads a j l {v = w} g e f) d i n = ⊎-elim (λ k. Gained.was (HeldBy.root k)) (λ k. seen (c .x) (c .f) w d j l g k n) (in-add (mover s c .roots) w d (rw e at i))
   roots-were (Grips.stores a j l g e f) d i n = Gained.was (HeldBy.root (rw e at i))
   roots-were (Grips.writes a e f) d i n = Gained.was (HeldBy.root (rw e at i))
 
-  old-was : {o : Process} → Grips s c (c .process) (mover s c) o → (d : ℕ) → o .old ≡ d → 0 < d → Gained s t (c .process) d
+  old-was : {o : Process} → Grips s t c (c .process) (mover s c) o → (d : ℕ) → o .old ≡ d → 0 < d → Gained s t (c .process) d
   old-was (Grips.keeps e f) d i n = Gained.was (HeldBy.honorary (sym f ∙ i) n)
-  old-was (Grips.allocates a z u e f) d i n = Gained.was (HeldBy.honorary (sym f ∙ i) n)
+  old-was (Grips.allocates a z u y b e f) d i n = Gained.was (HeldBy.honorary (sym f ∙ i) n)
   old-was (Grips.drops a e f) d i n = Gained.was (HeldBy.honorary (sym f ∙ i) n)
   old-was (Grips.reads a j l g e f) d i n = Gained.was (HeldBy.honorary (sym f ∙ i) n)
   old-was (Grips.stores a j l {v = w} g e f) d i n = seen (c .x) (c .f) w d j l g (sym f ∙ i) n

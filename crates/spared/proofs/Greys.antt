@@ -10,7 +10,7 @@ use mathlib.Core.Logic.{_⊎_, inl, inr, ⊎-elim, by-cases}
 use Prim.Native.Nat.{ℕ, _≤_, _<_}
 use native.Mathlib.Omega.{arith}
 use native.Mathlib.Decide.{ℕ-discrete}
-use Rattle.cells.specs.Sets.{noCells, Member, unionOf}
+use Rattle.cells.specs.Sets.{noCells, Member}
 use Rattle.cells.proofs.Bools.{split, not-both}
 use Rattle.cells.proofs.Members.{member-empty, in-union, union-left, union-right, in-add, add-same, add-keeps, in-remove, remove-keeps, not-empty}
 use Rattle.buffers.specs.declared.Store.the-variants as store
@@ -18,19 +18,13 @@ use Rattle.buffers.specs.declared.Entry.{Entry}
 use Rattle.memory.specs.declared.Memory.{Memory}
 use Rattle.memory.specs.Memories.{usedOf, markOf, fieldOf}
 use Rattle.state.specs.declared.Process.{Process}
-use Rattle.state.specs.declared.System.{System}
 use Rattle.state.specs.declared.State.{State}
 use Rattle.state.specs.declared.Choice.{Choice}
-use Rattle.state.specs.Codes.{rootsMark, rootsFinish, workFence, workFinish, row6Take, row7Drop, row8Take, noStage}
+use Rattle.state.specs.Codes.{row6Take, row7Drop, row8Take, noStage}
 use Rattle.state.specs.States.{mutatorsOf, processOf}
-use Rattle.formed.specs.Fits.{WellFormed}
-use Rattle.formed.proofs.Gives.{collector-within}
-use Rattle.model.specs.Rows.{At, Marks, Mutator, Collector, Row}
+use Rattle.model.specs.Rows.{At, Marks, Row}
 use Rattle.model.specs.Reasons.{mover}
-use Rattle.stays_formed.specs.Leaves.{Handed}
-use Rattle.stays_formed.proofs.Leaves.{row-system}
 use Rattle.claims.specs.Pending.{waitingOf}
-use Rattle.claims.proofs.Processes.{replaced}
 use Rattle.verdict.specs.Colours.{White, Grey, Black}
 use Rattle.spared.specs.Holds.{StoreIn}
 use Rattle.spared.specs.Views.{Effect, Turns, Aside}
@@ -43,69 +37,6 @@ use Rattle.spared.proofs.Marks.{marks-same, marked-cell, mark-store}
 use Rattle.spared.proofs.Shades.{black-marked}
 use Rattle.spared.proofs.Flips.{row-sense}
 use Rattle.spared.proofs.Stays.{far-collector}
-
--- ---- the lists that are moved
--- what a finish takes off a mutator's list the system gets
-module _ (s : State) (c : Choice) (p : ℕ) (far : rootsMark < processOf s p .place) (near : processOf s p .place ≤ workFinish) (ne : processOf s p .place ≡ workFence → ⊥) where
-  out : {r : ℕ} → Marks (processOf s p) r → ⊥
-  out (Marks.old e) = omega (arith, e)
-  out (Marks.new e) = omega (arith, e)
-  out (Marks.root e) = omega (arith, e)
-  out (Marks.field e) = omega (arith, e)
-
-  finish-gives : {t : State} → Mutator s c p (processOf s p) t → t .system .work ≡ unionOf (s .system .work) (processOf s p .work)
-  finish-gives (Mutator.allocates a o x l g y e) = absurd (omega (arith, a .place))
-  finish-gives (Mutator.drops a o m g y) = absurd (omega (arith, a .place))
-  finish-gives (Mutator.reads a o m g y e h) = absurd (omega (arith, a .place))
-  finish-gives (Mutator.reads-null a o m g y e) = absurd (omega (arith, a .place))
-  finish-gives (Mutator.stores a o m g y e h) = absurd (omega (arith, a .place))
-  finish-gives (Mutator.stores-new a o m g y e) = absurd (omega (arith, a .place))
-  finish-gives (Mutator.stores-null a o m g y e) = absurd (omega (arith, a .place))
-  finish-gives (Mutator.fences a o x g y e) = absurd (omega (arith, a .place))
-  finish-gives (Mutator.answers a o x g y r b) = absurd (omega (arith, a .place))
-  finish-gives (Mutator.marks b i h e) = absurd (out i)
-  finish-gives (Mutator.looks-root a o m e) = absurd (omega (arith, a .place))
-  finish-gives (Mutator.writes a b e) = absurd (omega (arith, a .place))
-  finish-gives (Mutator.fences-noop a b e) = absurd (omega (arith, a .place))
-  finish-gives (Mutator.fences-work a b e) = absurd (omega (arith, a .place))
-  finish-gives (Mutator.fences-roots a b e h) = absurd (omega (arith, a .place))
-  finish-gives (Mutator.fences-none a b e h) = absurd (omega (arith, a .place))
-  finish-gives (Mutator.finishes-noop a b) = absurd (omega (arith, a .place))
-  finish-gives (Mutator.finishes-roots a b) = refl
-  finish-gives (Mutator.finishes-work a b) = refl
-
--- what a take takes off the system's list the collector gets
-module _ (s : State) (c : Choice) (w : WellFormed s) (d : ℕ) where
-  list-kept : Member (s .system .work) d → {t : State} → Collector s c 0 (processOf s 0) t → (Member (t .system .work) d) ⊎ (Member (processOf t 0 .work) d)
-  list-kept i (Collector.fences r a b e) = inl i
-  list-kept i (Collector.types r a b v) = inl i
-  list-kept i (Collector.raises r a b m e) = inl i
-  list-kept i (Collector.raises-last r a b m e) = inl i
-  list-kept i (Collector.polls-up r a b m e) = inl i
-  list-kept i (Collector.polls r a b m e h) = inl i
-  list-kept i (Collector.polls-last r a b m e h) = inl i
-  list-kept i (Collector.reads-sense a b e) = inl i
-  list-kept i (Collector.writes-sense a b e) = inl i
-  list-kept i (Collector.writes-init a b e) = inl i
-  list-kept i (Collector.writes-mark a b e) = inl i
-  list-kept i (Collector.writes-alloc a b e) = inl i
-  list-kept i (Collector.takes a b h) = inr (rw (replaced s w 0 _ (omega arith)) i)
-  list-kept i (Collector.takes-none a b h) = absurd (not-empty (s .system .work) d i h)
-  list-kept i (Collector.reads-first a b e h) = inl i
-  list-kept i (Collector.reads-first-null a b e) = inl i
-  list-kept i (Collector.marks b k e) = inl i
-  list-kept i (Collector.reads-next a b e h) = inl i
-  list-kept i (Collector.reads-next-null a b e n) = inl i
-  list-kept i (Collector.reads-last-null a b e n) = inl i
-  list-kept i (Collector.drops a b h) = inl i
-  list-kept i (Collector.drops-last a b h) = inl i
-  list-kept i (Collector.writes-sweep a b e) = inl i
-  list-kept i (Collector.spares a b m e h) = inl i
-  list-kept i (Collector.spares-last a b m e h) = inl i
-  list-kept i (Collector.condemns a b m e) = inl i
-  list-kept i (Collector.frees a b e h) = inl i
-  list-kept i (Collector.frees-last a b e h) = inl i
-  list-kept i (Collector.writes-idle a b e) = inl i
 
 -- ---- of a row
 abbrev Dropped : State → Choice → ℕ → Type 0
@@ -130,84 +61,74 @@ take-empty s c v (inl a) = let z = far-collector s (v .inv .formed) (c .process)
 take-empty s c v (inr a) = let z = far-collector s (v .inv .formed) (c .process) (omega (arith, a .place)) in rw z (v .unlisted (rw (rw z at (a .place)) refl))
 
 module _ (s : State) (c : Choice) (v : Spared s) (d : ℕ) where
+  abbrev Turned : State → Type 0
+  Turned t = Turns (s .system .work) (t .system .work) (waitingOf s (c .process)) (mover s c) (processOf t (c .process))
+
   -- the system's list
-  gathered-stays : Member (s .system .work) d → {t : State} → Row s c t → Grey t d
-  gathered-stays i (Row.collector k e r) = ⊎-elim (λ h. Grey.gathered h) (λ h. Grey.listed 0 h) (list-kept s c (v .inv .formed) d i r)
-  gathered-stays i (Row.mutator k e a b r) = Grey.gathered (go (row-system (Row.mutator k e a b r)))
-    where
-      go : {h : System} → Handed (mover s c) (s .system) h → Member (h .work) d
-      go Handed.same = i
-      go (Handed.finishes f) = union-left (s .system .work) (mover s c .work) d i
-      go (Handed.types f g z) = i
-      go (Handed.takes f) = absurd (let z = far-collector s (v .inv .formed) (c .process) (⊎-elim (λ g. omega (arith, g .place)) (λ g. omega (arith, g .place)) f) in omega arith)
-  gathered-stays i (Row.commits k e a b h) = Grey.gathered i
+  gathered-stays : (t : State) → Turned t → Member (s .system .work) d → Grey t d
+  gathered-stays t (Turns.keeps e f z) i = Grey.gathered (rw z i)
+  gathered-stays t (Turns.greys k j e f g z) i = Grey.gathered (rw z i)
+  gathered-stays t (Turns.wins k j l n e f z) i = Grey.gathered (rw z i)
+  gathered-stays t (Turns.gives a e f z) i = Grey.gathered (rw z (union-left (s .system .work) (mover s c .work) d i))
+  gathered-stays t (Turns.takes a e f z) i = Grey.listed (c .process) (rw e i)
+  gathered-stays t (Turns.drops a e f z) i = Grey.gathered (rw z i)
 
-  gathered-was : {h : System} → Handed (mover s c) (s .system) h → Member (h .work) d → Grey s d
-  gathered-was Handed.same i = Grey.gathered i
-  gathered-was (Handed.finishes f) i = ⊎-elim (λ g. Grey.gathered g) (λ g. Grey.listed (c .process) g) (in-union (s .system .work) (mover s c .work) d i)
-  gathered-was (Handed.types f g z) i = Grey.gathered i
-  gathered-was (Handed.takes f) i = absurd (not-both i (member-empty d))
-
-  -- a finish
-  given : (At rootsFinish noStage (mover s c)) ⊎ (At workFinish noStage (mover s c)) → Member (mover s c .work) d → {t : State} → Row s c t → processOf t (c .process) .work ≡ noCells → Member (t .system .work) d
-  given f i (Row.collector k e r) z = absurd (let l = collector-within (v .inv .formed .collector) .0 in ⊎-elim (λ g. let h = rw e at (g .place) in omega (arith, h, l)) (λ g. let h = rw e at (g .place) in omega (arith, h, l)) f)
-  given f i (Row.mutator k {p = p} e a b r) z =
-      rw (finish-gives s c p (at-finish (λ j. rootsMark < j) (omega arith) (omega arith)) (at-finish (λ j. j ≤ workFinish) (omega arith) (omega arith)) (at-finish (λ j. j ≡ workFence → ⊥) (λ h. omega arith) (λ h. omega arith)) r)
-      (union-right (s .system .work) (processOf s p .work) d (rw e at i))
-    where
-      at-finish : (P : ℕ → Type 0) → P rootsFinish → P workFinish → P (processOf s p .place)
-      at-finish P x y = ⊎-elim (λ g. subst P (sym (rw e at (g .place))) x) (λ g. subst P (sym (rw e at (g .place))) y) f
-  given f i (Row.commits k e a b h) z = absurd (not-empty (mover s c .work) d i z)
+  gathered-was : (t : State) → Turned t → Member (t .system .work) d → Grey s d
+  gathered-was t (Turns.keeps e f z) i = Grey.gathered (rw z at i)
+  gathered-was t (Turns.greys k j e f g z) i = Grey.gathered (rw z at i)
+  gathered-was t (Turns.wins k j l n e f z) i = Grey.gathered (rw z at i)
+  gathered-was t (Turns.gives a e f z) i = ⊎-elim (λ g. Grey.gathered g) (λ g. Grey.listed (c .process) g) (in-union (s .system .work) (mover s c .work) d (rw z at i))
+  gathered-was t (Turns.takes a e f z) i = absurd (not-both (rw z at i) (member-empty d))
+  gathered-was t (Turns.drops a e f z) i = Grey.gathered (rw z at i)
 
   -- the list of the process that steps
-  list-stays : (t : State) → Row s c t → Turns (s .system .work) (waitingOf s (c .process)) (mover s c) (processOf t (c .process)) → Member (mover s c .work) d → (Grey t d) ⊎ Dropped s c d
-  list-stays t r (Turns.keeps e f) i = inl (Grey.listed (c .process) (rw e i))
-  list-stays t r (Turns.greys k j e f g) i = inl (Grey.listed (c .process) (rw e i))
-  list-stays t r (Turns.wins {r = x} k j l n e f) i = inl (Grey.listed (c .process) (rw e (add-keeps (mover s c .work) x d i)))
-  list-stays t r (Turns.gives a e f) i = inl (Grey.gathered (given a i r e))
-  list-stays t r (Turns.takes a e f) i = absurd (not-empty (mover s c .work) d i (take-empty s c v a))
-  list-stays t r (Turns.drops a e f) i =
+  list-stays : (t : State) → Turned t → Member (mover s c .work) d → (Grey t d) ⊎ Dropped s c d
+  list-stays t (Turns.keeps e f y) i = inl (Grey.listed (c .process) (rw e i))
+  list-stays t (Turns.greys k j e f g y) i = inl (Grey.listed (c .process) (rw e i))
+  list-stays t (Turns.wins {r = x} k j l n e f y) i = inl (Grey.listed (c .process) (rw e (add-keeps (mover s c .work) x d i)))
+  list-stays t (Turns.gives a e f y) i = inl (Grey.gathered (rw y (union-right (s .system .work) (mover s c .work) d i)))
+  list-stays t (Turns.takes a e f y) i = absurd (not-empty (mover s c .work) d i (take-empty s c v a))
+  list-stays t (Turns.drops a e f y) i =
       by-cases (ℕ-discrete (mover s c .x) d) (λ z. inr (a, (z, far-collector s (v .inv .formed) (c .process) (omega (arith, a .place)))))
       (λ z. inl (Grey.listed (c .process) (rw e (remove-keeps (mover s c .work) (mover s c .x) d i z))))
 
-  list-was : {o : Process} → Turns (s .system .work) (waitingOf s (c .process)) (mover s c) o → Member (o .work) d → Grey s d
-  list-was (Turns.keeps e f) i = Grey.listed (c .process) (rw e at i)
-  list-was (Turns.greys k j e f g) i = Grey.listed (c .process) (rw e at i)
-  list-was (Turns.wins {r = x} k j l n e f) i =
+  list-was : (t : State) → Turned t → Member (processOf t (c .process) .work) d → Grey s d
+  list-was t (Turns.keeps e f y) i = Grey.listed (c .process) (rw e at i)
+  list-was t (Turns.greys k j e f g y) i = Grey.listed (c .process) (rw e at i)
+  list-was t (Turns.wins {r = x} k j l n e f y) i =
       ⊎-elim (λ h. Grey.listed (c .process) h) (λ h. Grey.greying (c .process) (won s c v k n ∙ h) (let z = won s c v k n in omega (arith, n, z, h))) (in-add (mover s c .work) x d (rw e at i))
-  list-was (Turns.gives a e f) i = absurd (not-both (rw e at i) (member-empty d))
-  list-was (Turns.takes a e f) i = Grey.gathered (rw e at i)
-  list-was (Turns.drops a e f) i = Grey.listed (c .process) (in-remove (mover s c .work) (mover s c .x) d (rw e at i) .0)
+  list-was t (Turns.gives a e f y) i = absurd (not-both (rw e at i) (member-empty d))
+  list-was t (Turns.takes a e f y) i = Grey.gathered (rw e at i)
+  list-was t (Turns.drops a e f y) i = Grey.listed (c .process) (in-remove (mover s c .work) (mover s c .x) d (rw e at i) .0)
 
   -- the cell that it greys
-  greying-stays : (t : State) → Turns (s .system .work) (waitingOf s (c .process)) (mover s c) (processOf t (c .process)) → mover s c .grey ≡ d → 0 < d → Grey t d
-  greying-stays t (Turns.keeps e f) h p = Grey.greying (c .process) (f ∙ h) p
-  greying-stays t (Turns.greys k j e f g) h p = absurd (omega (arith, f, h))
-  greying-stays t (Turns.wins {r = x} k j l n e f) h p =
-      let y = won s c v k n in
-      let z : x ≡ d = sym y ∙ h in
+  greying-stays : (t : State) → Turned t → mover s c .grey ≡ d → 0 < d → Grey t d
+  greying-stays t (Turns.keeps e f y) h p = Grey.greying (c .process) (f ∙ h) p
+  greying-stays t (Turns.greys k j e f g y) h p = absurd (omega (arith, f, h))
+  greying-stays t (Turns.wins {r = x} k j l n e f y) h p =
+      let z : x ≡ d = sym (won s c v k n) ∙ h in
       let m = v .looked (c .process) .done k j (rw l refl) in
       Grey.listed (c .process) (rw (e, z) (add-same (mover s c .work) d p (omega (arith, z, v .inv .formed .memory .used-cells x (m .occupied) .1, v .inv .formed .memory .few-cells))))
-  greying-stays t (Turns.gives a e f) h p = Grey.greying (c .process) (f ∙ h) p
-  greying-stays t (Turns.takes a e f) h p = Grey.greying (c .process) (f ∙ h) p
-  greying-stays t (Turns.drops a e f) h p = Grey.greying (c .process) (f ∙ h) p
+  greying-stays t (Turns.gives a e f y) h p = Grey.greying (c .process) (f ∙ h) p
+  greying-stays t (Turns.takes a e f y) h p = Grey.greying (c .process) (f ∙ h) p
+  greying-stays t (Turns.drops a e f y) h p = Grey.greying (c .process) (f ∙ h) p
 
-  greying-was : {o : Process} → c .process ≤ mutatorsOf s → Turns (s .system .work) (waitingOf s (c .process)) (mover s c) o → o .grey ≡ d → 0 < d → Greyed s c d
-  greying-was l (Turns.keeps e f) h p = Greyed.was (Grey.greying (c .process) (sym f ∙ h) p)
-  greying-was l (Turns.greys {r = x} k j e f g) h p = let z : x ≡ d = sym g ∙ h in Greyed.now (subst (Marks (mover s c)) z k) j (subst (White (s .memory)) z (v .looked (c .process) .white k j)) l
-  greying-was l (Turns.wins k j y n e f) h p = absurd (omega (arith, f, h))
-  greying-was l (Turns.gives a e f) h p = Greyed.was (Grey.greying (c .process) (sym f ∙ h) p)
-  greying-was l (Turns.takes a e f) h p = Greyed.was (Grey.greying (c .process) (sym f ∙ h) p)
-  greying-was l (Turns.drops a e f) h p = Greyed.was (Grey.greying (c .process) (sym f ∙ h) p)
+  greying-was : (t : State) → c .process ≤ mutatorsOf s → Turned t → processOf t (c .process) .grey ≡ d → 0 < d → Greyed s c d
+  greying-was t l (Turns.keeps e f y) h p = Greyed.was (Grey.greying (c .process) (sym f ∙ h) p)
+  greying-was t l (Turns.greys {r = x} k j e f g y) h p = let z : x ≡ d = sym g ∙ h in Greyed.now (subst (Marks (mover s c)) z k) j (subst (White (s .memory)) z (v .looked (c .process) .white k j)) l
+  greying-was t l (Turns.wins k j m n e f y) h p = absurd (omega (arith, f, h))
+  greying-was t l (Turns.gives a e f y) h p = Greyed.was (Grey.greying (c .process) (sym f ∙ h) p)
+  greying-was t l (Turns.takes a e f y) h p = Greyed.was (Grey.greying (c .process) (sym f ∙ h) p)
+  greying-was t l (Turns.drops a e f y) h p = Greyed.was (Grey.greying (c .process) (sym f ∙ h) p)
 
 pub grey-stays : GreyStays
 grey-stays s t c v r d = go
   where
     go : Grey s d → (Grey t d) ⊎ Dropped s c d
     go (Grey.listed p i) =
-        by-cases (ℕ-discrete p (c .process)) (λ z. list-stays s c v d t r (row-turns s t c (v .inv .formed) r) (rw z at i))
+        by-cases (ℕ-discrete p (c .process)) (λ z. list-stays s c v d t (row-turns s t c (v .inv .formed) r) (rw z at i))
         (λ z. inl (Grey.listed p (rw (aside-work (row-aside s t c (v .inv .formed) r p z) .0) i)))
-    go (Grey.gathered i) = inl (gathered-stays s c v d i r)
+    go (Grey.gathered i) = inl (gathered-stays s c v d t (row-turns s t c (v .inv .formed) r) i)
     go (Grey.greying p e l) =
         by-cases (ℕ-discrete p (c .process)) (λ z. inl (greying-stays s c v d t (row-turns s t c (v .inv .formed) r) (rw z at e) l))
         (λ z. inl (Grey.greying p (aside-work (row-aside s t c (v .inv .formed) r p z) .1 ∙ e) l))
@@ -217,11 +138,11 @@ grey-was s t c v r d = go
   where
     go : Grey t d → Greyed s c d
     go (Grey.listed p i) =
-        by-cases (ℕ-discrete p (c .process)) (λ z. Greyed.was (list-was s c v d (row-turns s t c (v .inv .formed) r) (rw z at i)))
+        by-cases (ℕ-discrete p (c .process)) (λ z. Greyed.was (list-was s c v d t (row-turns s t c (v .inv .formed) r) (rw z at i)))
         (λ z. Greyed.was (Grey.listed p (rw (aside-work (row-aside s t c (v .inv .formed) r p z) .0) at i)))
-    go (Grey.gathered i) = Greyed.was (gathered-was s c v d (row-system r) i)
+    go (Grey.gathered i) = Greyed.was (gathered-was s c v d t (row-turns s t c (v .inv .formed) r) i)
     go (Grey.greying p e l) =
-        by-cases (ℕ-discrete p (c .process)) (λ z. greying-was s c v d (row-bound r) (row-turns s t c (v .inv .formed) r) (rw z at e) l)
+        by-cases (ℕ-discrete p (c .process)) (λ z. greying-was s c v d t (row-bound r) (row-turns s t c (v .inv .formed) r) (rw z at e) l)
         (λ z. Greyed.was (Grey.greying p (sym (aside-work (row-aside s t c (v .inv .formed) r p z) .1) ∙ e) l))
 
 -- ---- black cells

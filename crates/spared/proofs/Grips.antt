@@ -41,13 +41,13 @@ mark-roots (Mark.wins e g h v) = next-roots v
 mark-roots (Mark.loses e g h v) = next-roots v
 
 module _ (s : State) (w : WellFormed s) (c : Choice) {p : ℕ} {q : Process} where
-  same : (x : State) (o : Process) → o .roots ≡ q .roots → o .old ≡ q .old → After (Grips s c p q) p (withProcess x p o)
+  same : (x : State) (o : Process) → o .roots ≡ q .roots → o .old ≡ q .old → After (Grips s (withProcess x p o) c p q) p (withProcess x p o)
   same x o e f = After.after x o (Grips.keeps e f)
 
-  mutator-grips : {t : State} → Mutator s c p q t → After (Grips s c p q) p t
+  mutator-grips : {t : State} → Mutator s c p q t → After (Grips s t c p q) p t
   mutator-grips (Mutator.allocates a o x l g y {m} e) =
-      let free = allocate-taken p (c .x) (shaped (s .memory) (w .memory)) x (omega (arith, w .memory .few-cells)) e .free in
-      After.after (withMemory s m) _ (Grips.allocates a o free refl refl)
+      let k = allocate-taken p (c .x) (shaped (s .memory) (w .memory)) x (omega (arith, w .memory .few-cells)) e in
+      After.after (withMemory s m) _ (Grips.allocates a o (k .free) (k .after .used) (k .after .mark) refl refl)
   mutator-grips (Mutator.drops a o m g y) = After.after s _ (Grips.drops a refl refl)
   mutator-grips (Mutator.reads a o m g y e h) = After.after s _ (Grips.reads a m (omega arith) e refl refl)
   mutator-grips (Mutator.reads-null a o m g y e) = same s _ refl refl
@@ -70,4 +70,4 @@ module _ (s : State) (w : WellFormed s) (c : Choice) {p : ℕ} {q : Process} whe
 -- the collector has no roots and no old value
 pub row-grips : RowGrips
 row-grips s t c w r =
-    row-after (λ i. Grips s c i (processOf s i)) s c w (λ g _. Grips.keeps (g .collector .no-roots ∙ sym (w .collector .no-roots)) (g .collector .no-old ∙ sym (w .collector .no-old))) (λ p _ _. mutator-grips s w c) (Grips.keeps refl refl) r
+    row-after (λ i. Grips s t c i (processOf s i)) s c w (λ g _. Grips.keeps (g .collector .no-roots ∙ sym (w .collector .no-roots)) (g .collector .no-old ∙ sym (w .collector .no-old))) (λ p _ _. mutator-grips s w c) (λ _. Grips.keeps refl refl) r

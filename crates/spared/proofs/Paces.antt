@@ -47,7 +47,7 @@ module _ (s : State) (c : Choice) {p : ℕ} {q : Process} where
 -- the collector has no part in the handshakes
 pub row-paces : RowPaces
 row-paces s t c w r =
-    row-after (λ i. Paces (processOf s i)) s c w (λ g _. Paces.keeps (ap (λ (i : Part). i .phase) (g .collector .no-part ∙ sym (w .collector .no-part)))) (λ p _ _. mutator-paces s c) (Paces.keeps refl) r
+    row-after (λ i. Paces (processOf s i)) s c w (λ g _. Paces.keeps (ap (λ (i : Part). i .phase) (g .collector .no-part ∙ sym (w .collector .no-part)))) (λ p _ _. mutator-paces s c) (λ _. Paces.keeps refl) r
 
 beside-aside : {c : Choice} {q o u : Process} {x : ℕ} → Beside c q x o u → Aside o u
 beside-aside {o = o} Beside.same = Aside.aside (o .part .raised) (o .part .in_step) refl

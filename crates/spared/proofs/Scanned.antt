@@ -31,7 +31,6 @@ use Rattle.model.specs.Offers.{markPlace}
 use Rattle.model.specs.Rows.{seesValue, Marks, Mark, Round, allOff, withProcesses, flagged, Collector, Row}
 use Rattle.stays_formed.proofs.Kept.{row-kept}
 use Rattle.reach.specs.Reach.{Names}
-use Rattle.claims.proofs.Processes.{arrived}
 use Rattle.claims.proofs.Rules.{Checked, ruled}
 use Rattle.claims.proofs.Answering.{implied}
 use Rattle.claims.proofs.Moves.{marks-place}
@@ -41,6 +40,7 @@ use Rattle.spared.specs.Scanned.{ScannedBy, Scanned}
 use Rattle.spared.specs.Views.{Aside}
 use Rattle.spared.specs.Inv.{Spared}
 use Rattle.spared.specs.Lemmas.{Flip, RowsKeep}
+use Rattle.spared.proofs.Arrivals.{After, arrives}
 use Rattle.spared.proofs.Paces.{row-aside}
 use Rattle.spared.proofs.Sights.{scan-field}
 use Rattle.spared.proofs.Flips.{row-sense}
@@ -197,12 +197,12 @@ module _ (s : State) (v : Spared s) where
   sees x f w e = scan-field s (v .inv) x f w e
 
 -- ---- its own step: it is o after it, and memory is that of x
-data Ended : State → Type 0 where
-  ended : (x : State) (o : Process) → ScannedBy (x .memory) o → Ended (withProcess x 0 o)
+abbrev Ended : State → Type 0
+Ended t = After (ScannedBy (t .memory)) 0 t
 
 module _ (s : State) (c : Choice) (v : Spared s) where
   plain : {k : ℕ} (x : State) (o : Process) → o .place ≡ k → inHand k ≡ false → markPlace k ≡ false → Ended (withProcess x 0 o)
-  plain x o e a b = Ended.ended x o (away o e a b)
+  plain x o e a b = After.after x o (away o e a b)
 
   turns : {k : ℕ} (x : State) (o : Process) → o .place ≡ k → Apart k → Ended (withProcess x 0 o)
   turns x o e a = plain x o e (a .in-hand) (a .mark)
@@ -224,37 +224,37 @@ module _ (s : State) (c : Choice) (v : Spared s) where
   own-scans z f u (Collector.takes-none a b h) = plain (withSystem s _) _ refl refl refl
   own-scans z f u (Collector.reads-first a b {v = w} e h) =
       let k = sees s v (c .x) (c .f) w e in
-      Ended.ended s _ (record {
+      After.after s _ (record {
         listed = λ _. b .cell;
         occupied = read-marks s v _ refl refl (read-used s v (c .x) (c .f) w (b .field) (b .cell) k h);
         scanned = λ _. read-covers s v _ (c .x) (c .f) allFields (b .field) (Covered.now (subst (Marks _) k (Marks.field refl))) (first-left s v (c .x));
       })
   own-scans z f u (Collector.reads-first-null a b e) =
-      Ended.ended s _ (record {
+      After.after s _ (record {
         listed = λ _. b .cell;
         occupied = λ i. absurd (false≢true (marks-place i));
         scanned = λ _. read-covers s v _ (c .x) (c .f) allFields (b .field) (Covered.safe (inl (sym (sees s v (c .x) (c .f) 0 e)))) (first-left s v (c .x));
       })
-  own-scans {t} z f u (Collector.marks b i {m} {t = o} e) = Ended.ended (withMemory s m) o (mark-scans s v t z f u i e)
+  own-scans {t} z f u (Collector.marks b i {m} {t = o} e) = After.after (withMemory s m) o (mark-scans s v t z f u i e)
   own-scans z f u (Collector.reads-next a b {v = w} e h) =
       let x = processOf s 0 .x in
       let k = sees s v x (c .f) w e in
       let l = left-field (processOf s 0 .left) (c .f) (b .field) in
-      Ended.ended s _ (record {
+      After.after s _ (record {
         listed = λ _. v .scanned .listed (rw (a .place) refl);
         occupied = read-marks s v _ refl refl (read-used s v x (c .f) w l (v .scanned .listed (rw (a .place) refl)) k h);
         scanned = λ _. read-covers s v _ x (c .f) (processOf s 0 .left) l (Covered.now (subst (Marks _) k (Marks.field refl))) (next-left s v (a .place));
       })
   own-scans z f u (Collector.reads-next-null a b e h) =
       let x = processOf s 0 .x in
-      Ended.ended s _ (record {
+      After.after s _ (record {
         listed = λ _. v .scanned .listed (rw (a .place) refl);
         occupied = λ i. absurd (false≢true (marks-place i));
         scanned = λ _. read-covers s v _ x (c .f) (processOf s 0 .left) (left-field (processOf s 0 .left) (c .f) (b .field)) (Covered.safe (inl (sym (sees s v x (c .f) 0 e)))) (next-left s v (a .place));
       })
   own-scans z f u (Collector.reads-last-null a b e h) =
       let x = processOf s 0 .x in
-      Ended.ended s _ (record {
+      After.after s _ (record {
         listed = λ _. v .scanned .listed (rw (a .place) refl);
         occupied = λ i. absurd (false≢true (marks-place i));
         scanned = λ _ g l i. read-covers s v _ x (c .f) (processOf s 0 .left) (left-field (processOf s 0 .left) (c .f) (b .field)) (Covered.safe (inl (sym (sees s v x (c .f) 0 e)))) (next-left s v (a .place)) g l
@@ -271,9 +271,6 @@ module _ (s : State) (c : Choice) (v : Spared s) where
   own-scans z f u (Collector.writes-idle a b {m} e) = plain (withMemory s m) _ refl refl refl
 
 -- ---- a step
-arrives : {t : State} → WellFormed t → Ended t → Scanned t
-arrives g (Ended.ended x o h) = rw (arrived x 0 o (omega arith) g) h
-
 module _ (s : State) (c : Choice) (v : Spared s) where
   -- the cell being marked stays occupied: it is not the one that is freed
   still-used : {t : State} → Row s c t → (r : ℕ) → Marks (processOf s 0) r → usedOf (t .memory) r ≡ true
@@ -283,7 +280,7 @@ module _ (s : State) (c : Choice) (v : Spared s) where
   stays-scanned : {t : State} → t .memory .fm ≡ s .memory .fm → Row s c t → Scanned t
   stays-scanned {t} e (Row.collector x z r) =
       let w = Row.collector x z r in
-      arrives (row-kept s c (v .inv .formed) w) (own-scans s c v (marked-stays s t c v w e) (field-after s t c v w e) (still-used w) r)
+      arrives (omega arith) (row-kept s c (v .inv .formed) w) (own-scans s c v (marked-stays s t c v w e) (field-after s t c v w e) (still-used w) r)
   stays-scanned {t} e (Row.mutator x z pos mine r) =
       let w = Row.mutator x z pos mine r in
       aside-scans s v t (marked-stays s t c v w e) (field-after s t c v w e) (still-used w) (row-aside s t c (v .inv .formed) w 0 (λ i. omega arith))

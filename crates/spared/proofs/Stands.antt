@@ -15,7 +15,7 @@ use Rattle.cells.specs.Sets.{Member, memberOf, removeOf}
 use Rattle.cells.proofs.Bools.{split, not-both}
 use Rattle.cells.proofs.Members.{member-empty, remove-keeps}
 use Rattle.memory.specs.declared.Memory.{Memory}
-use Rattle.memory.specs.Memories.{maxProcesses, fieldOf}
+use Rattle.memory.specs.Memories.{fieldOf}
 use Rattle.memory.specs.Looks.{lookFieldOf}
 use Rattle.state.specs.declared.Handshake.{Handshake}
 use Rattle.state.specs.declared.Handshake.the-variants as hand
@@ -25,18 +25,18 @@ use Rattle.state.specs.declared.State.{State}
 use Rattle.state.specs.declared.Choice.{Choice}
 use Rattle.state.specs.Codes.{rootsFence, rootsMark, rootsFinish, noStage, lookStage}
 use Rattle.state.specs.States.{at, mutatorsOf, processOf, withProcess, withMemory, withSystem}
-use Rattle.formed.specs.Fits.{amongOf, Among, WellFormed}
+use Rattle.formed.specs.Fits.{amongOf, Among}
 use Rattle.formed.proofs.Gives.{roots-first-at}
 use Rattle.model.specs.Rows.{At, seesValue, Marks, Mark, Branch, Mutator, withList, Row}
 use Rattle.stays_formed.proofs.Frames.{named}
 use Rattle.stays_formed.proofs.Kept.{row-kept}
 use Rattle.claims.specs.Pending.{waitingOf}
-use Rattle.claims.proofs.Processes.{arrived}
 use Rattle.spared.specs.Shades.{Marked, NullOrMarked, Covered}
 use Rattle.spared.specs.Zones.{storePlaces, insertPlaces, rootPlaces, inserting, deleting}
 use Rattle.spared.specs.Barriers.{Barrier}
 use Rattle.spared.specs.Views.{Aside}
 use Rattle.spared.specs.Inv.{Spared}
+use Rattle.spared.proofs.Arrivals.{After, arrives}
 use Rattle.spared.proofs.Paces.{row-aside}
 use Rattle.spared.proofs.Sights.{look-field}
 use Rattle.spared.proofs.Eras.{roots-asked}
@@ -181,12 +181,12 @@ module _ (s : State) (v : Spared s) (p : ℕ) (pos : 0 < p) (mine : p ≤ mutato
       go (Covered.now h) = Covered.safe (inl (none h))
 
 -- ---- its own step: it is o after it, and memory is that of x
-data Ended (p : ℕ) : State → Type 0 where
-  ended : (x : State) (o : Process) → Stands (x .memory) o → Ended p (withProcess x p o)
+abbrev Ended : ℕ → State → Type 0
+Ended p t = After (Stands (t .memory)) p t
 
 module _ (s : State) (c : Choice) (v : Spared s) (p : ℕ) (pos : 0 < p) (mine : p ≤ mutatorsOf s) where
   idle : {k : ℕ} (x : State) (o : Process) → o .place ≡ k → amongOf k insertPlaces ≡ false → amongOf k storePlaces ≡ false → amongOf k rootPlaces ≡ false → Ended p (withProcess x p o)
-  idle x o e a b d = Ended.ended x o (elsewhere o e a b d)
+  idle x o e a b d = After.after x o (elsewhere o e a b d)
 
   own-stands : {t : State} → ((d : ℕ) → Marked (s .memory) d → Marked (t .memory) d) → ((d g : ℕ) → FieldAfter s t d g) → Mutator s c p (processOf s p) t → Ended p t
   own-stands z f (Mutator.allocates a o x l g y {m} e) = idle (withMemory s m) _ (a .place) refl refl refl
@@ -194,20 +194,20 @@ module _ (s : State) (c : Choice) (v : Spared s) (p : ℕ) (pos : 0 < p) (mine :
   own-stands z f (Mutator.reads a o m g y e h) = idle s _ (a .place) refl refl refl
   own-stands z f (Mutator.reads-null a o m g y e) = idle s _ (a .place) refl refl refl
   own-stands z f (Mutator.stores a o m g y {v = w} e h) =
-      Ended.ended s _ (record {
+      After.after s _ (record {
         inserts = λ _ i. absurd (false≢true i);
         deletes = λ d _. ⊎-elim (λ i. Covered.now (subst (Marks _) i (Marks.old refl))) Covered.safe (reads-old s v p pos mine (c .x) (c .f) g e d);
         roots = λ i. absurd (false≢true i);
       })
   own-stands z f (Mutator.stores-new a o m g y e) =
-      Ended.ended s _ (record { inserts = λ _ _. Covered.now (Marks.new refl); deletes = λ d _. reads-null s v p pos mine (c .x) (c .f) g e d; roots = λ i. absurd (false≢true i) })
+      After.after s _ (record { inserts = λ _ _. Covered.now (Marks.new refl); deletes = λ d _. reads-null s v p pos mine (c .x) (c .f) g e d; roots = λ i. absurd (false≢true i) })
   own-stands z f (Mutator.stores-null a o m g y e) =
-      Ended.ended s _ (record { inserts = λ _ _. Covered.safe (inl refl); deletes = λ d _. reads-null s v p pos mine (c .x) (c .f) g e d; roots = λ i. absurd (false≢true i) })
+      After.after s _ (record { inserts = λ _ _. Covered.safe (inl refl); deletes = λ d _. reads-null s v p pos mine (c .x) (c .f) g e d; roots = λ i. absurd (false≢true i) })
   own-stands z f (Mutator.fences a o x g y e) = idle s _ (a .place) refl refl refl
   own-stands z f (Mutator.answers a o x g y u b) = let k = branch-elsewhere b in idle s _ refl (k .0) (k .1 .0) (k .1 .1)
-  own-stands {t} z f (Mutator.marks b i h {m} {t = o} e) = Ended.ended (withMemory s m) o (mark-stands s v p pos mine t z f i h e)
+  own-stands {t} z f (Mutator.marks b i h {m} {t = o} e) = After.after (withMemory s m) o (mark-stands s v p pos mine t z f i h e)
   own-stands z f (Mutator.looks-root a o m e) =
-      Ended.ended s _ (record {
+      After.after s _ (record {
         inserts = λ _ i. absurd (false≢true i);
         deletes = λ _ i. absurd (false≢true i);
         roots = λ _ d i l. looks-root s v p pos mine _ (c .x) a (Marks.root refl) (rw (a .place) refl) d i l;
@@ -216,17 +216,14 @@ module _ (s : State) (c : Choice) (v : Spared s) (p : ℕ) (pos : 0 < p) (mine :
   own-stands z f (Mutator.fences-noop a b e) = idle s _ refl refl refl refl
   own-stands z f (Mutator.fences-work a b e) = idle s _ refl refl refl refl
   own-stands z f (Mutator.fences-roots a b e h) =
-      Ended.ended s _ (record { inserts = λ _ i. absurd (false≢true i); deletes = λ _ i. absurd (false≢true i); roots = λ _ d i l. absurd (not-both i l) })
+      After.after s _ (record { inserts = λ _ i. absurd (false≢true i); deletes = λ _ i. absurd (false≢true i); roots = λ _ d i l. absurd (not-both i l) })
   own-stands z f (Mutator.fences-none a b e h) =
-      Ended.ended s (at rootsFinish noStage (processOf s p)) (record { inserts = λ _ i. absurd (false≢true i); deletes = λ _ i. absurd (false≢true i); roots = λ _ d i l. absurd (not-both (rw h at i) (member-empty d)) })
+      After.after s (at rootsFinish noStage (processOf s p)) (record { inserts = λ _ i. absurd (false≢true i); deletes = λ _ i. absurd (false≢true i); roots = λ _ d i l. absurd (not-both (rw h at i) (member-empty d)) })
   own-stands z f (Mutator.finishes-noop a b) = idle s _ refl refl refl refl
   own-stands z f (Mutator.finishes-roots a b) = idle (withSystem s (withList (s .system) _)) _ refl refl refl refl
   own-stands z f (Mutator.finishes-work a b) = idle (withSystem s (withList (s .system) _)) _ refl refl refl refl
 
 -- ---- a step
-arrives : {p : ℕ} {t : State} → p < maxProcesses → WellFormed t → Ended p t → Stands (t .memory) (processOf t p)
-arrives {p} l g (Ended.ended x o h) = rw (arrived x p o l g) h
-
 module _ (s : State) (c : Choice) (v : Spared s) (m : ℕ) (a : 0 < m) (b : m ≤ mutatorsOf s) where
   stands-at : {t : State} → t .memory .fm ≡ s .memory .fm → Row s c t → Dec (m ≡ c .process) → Stands (t .memory) (processOf t m)
   stands-at {t} e r (no d) = aside-stands s v m a b t (marked-stays s t c v r e) (field-after s t c v r e) (row-aside s t c (v .inv .formed) r m d)

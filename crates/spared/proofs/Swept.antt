@@ -25,7 +25,6 @@ use Rattle.state.specs.declared.State.{State}
 use Rattle.state.specs.declared.Choice.{Choice}
 use Rattle.state.specs.Codes.{row6Round, row9Write, row10Look, row10Free}
 use Rattle.state.specs.States.{noProcess, mutatorsOf, processOf, withProcess, withMemory, withSystem}
-use Rattle.formed.specs.Fits.{WellFormed}
 use Rattle.model.specs.Rows.{findsFree, findsMark, Marks, Round, allOff, withProcesses, flagged, Collector, Row}
 use Rattle.model.specs.Reasons.{mover}
 use Rattle.stays_formed.specs.Leaves.{Occupied}
@@ -33,7 +32,6 @@ use Rattle.stays_formed.proofs.Kept.{row-kept}
 use Rattle.stays_formed.proofs.Leaves.{row-counts, row-used}
 use Rattle.verdict.specs.Colours.{White}
 use Rattle.claims.specs.Pending.{waitingOf}
-use Rattle.claims.proofs.Processes.{arrived}
 use Rattle.claims.proofs.Rules.{Checked, ruled}
 use Rattle.claims.proofs.Answering.{implied}
 use Rattle.spared.specs.Shades.{Marked}
@@ -43,6 +41,7 @@ use Rattle.spared.specs.Swept.{SweptBy, SweptMarked}
 use Rattle.spared.specs.Views.{Effect, Aside}
 use Rattle.spared.specs.Inv.{Spared}
 use Rattle.spared.specs.Lemmas.{Flip, RowsKeep}
+use Rattle.spared.proofs.Arrivals.{After, arrives}
 use Rattle.spared.proofs.Effects.{row-effect}
 use Rattle.spared.proofs.Paces.{row-aside}
 use Rattle.spared.proofs.Sights.{sweep-mark, sweep-free}
@@ -154,12 +153,12 @@ module _ (s t : State) (c : Choice) (v : Spared s) (r : Row s c t) (same : t .me
           record { occupied = u; unequal = λ k. w .unequal (sym (mark-stays (sweeping-ended s v p .1) (q .x) (w .occupied) u known) ∙ k ∙ same) }
 
 -- ---- the collector's own step: it is o after it, and memory is that of x
-data Ended : State → Type 0 where
-  ended : (x : State) (o : Process) → SweptBy (x .memory) o → Ended (withProcess x 0 o)
+abbrev Ended : State → Type 0
+Ended t = After (SweptBy (t .memory)) 0 t
 
 module _ (s : State) (c : Choice) (v : Spared s) where
   plain : {k : ℕ} (x : State) (o : Process) → o .place ≡ k → inSweep k ≡ false → Ended (withProcess x 0 o)
-  plain x o e a = Ended.ended x o (away o e a)
+  plain x o e a = After.after x o (away o e a)
 
   noted : processOf s 0 .place ≡ row10Look → processOf s 0 .sense ≡ s .memory .fm
   noted e = scan-noted s (v .inv) (rw e refl)
@@ -203,21 +202,21 @@ module _ (s : State) (c : Choice) (v : Spared s) where
   own-sweeps z u (Collector.drops-last a b h) = plain s _ refl refl
   own-sweeps z u (Collector.writes-sweep a b {m} e) =
       let few = v .inv .formed .memory .few-cells in
-      Ended.ended (withMemory s m) _ (record { swept = λ _ d h. let k = u d h in inl (full-has (s .memory .cells) d (k .0) (k .1) (omega (arith, k .1))); white = λ h. absurd (not-free refl h) })
+      After.after (withMemory s m) _ (record { swept = λ _ d h. let k = u d h in inl (full-has (s .memory .cells) d (k .0) (k .1) (omega (arith, k .1))); white = λ h. absurd (not-free refl h) })
   own-sweeps z u (Collector.spares a b m e h) =
-      Ended.ended s _ (record {
+      After.after s _ (record {
         swept = λ _ d g. ⊎-elim inl (λ k. inr (inl (⊎-elim (λ i. i) (λ i. i) k))) (looked (c .x) d (Marked (s .memory) d) (a .place) (λ i. rw i at (spared-marked (c .x) (a .place) e (rw i g))) g);
         white = λ i. absurd (not-free (a .place) i);
       })
   own-sweeps z u (Collector.spares-last a b m e h) = plain s _ refl refl
   own-sweeps z u (Collector.condemns a b m e) =
-      Ended.ended s _ (record {
+      After.after s _ (record {
         swept = λ _ d g. looked (c .x) d _ (a .place) (λ i. (refl, i)) g;
         white = λ _. let k = sweep-mark s (v .inv) (a .place) (c .x) (not (processOf s 0 .sense)) e in
             record { occupied = k .0; unequal = λ i. not-eq-not .1 refl (noted (a .place) ∙ sym i ∙ k .1) };
       })
   own-sweeps z u (Collector.frees a b {m} e h) =
-      Ended.ended (withMemory s m) _ (record { swept = λ _ d g. left d (in-remove (s .memory .used) (processOf s 0 .x) d (rw (free-used (s .memory) 0 (processOf s 0 .x) e) at g)); white = λ i. absurd (not-free refl i) })
+      After.after (withMemory s m) _ (record { swept = λ _ d g. left d (in-remove (s .memory .used) (processOf s 0 .x) d (rw (free-used (s .memory) 0 (processOf s 0 .x) e) at g)); white = λ i. absurd (not-free refl i) })
     where
       left : (d : ℕ) → (Member (s .memory .used) d) × (processOf s 0 .x ≡ d → ⊥) → (Member (processOf s 0 .left) d) ⊎ ((Marked m d) ⊎ ((row10Look ≡ row10Free) × (0 ≡ d)))
       left d g = go (v .swept .swept (rw (a .place) refl) d (g .0))
@@ -230,15 +229,12 @@ module _ (s : State) (c : Choice) (v : Spared s) where
   own-sweeps z u (Collector.writes-idle a b {m} e) = plain (withMemory s m) _ refl refl
 
 -- ---- a step
-arrives : {t : State} → WellFormed t → Ended t → SweptMarked t
-arrives g (Ended.ended x o h) = rw (arrived x 0 o (omega arith) g) h
-
 module _ (s : State) (c : Choice) (v : Spared s) where
   stays-swept : {t : State} → t .memory .fm ≡ s .memory .fm → Row s c t → SweptMarked t
   stays-swept {t} e (Row.collector x z r) =
       let w = Row.collector x z r in
       let g = row-kept s c (v .inv .formed) w in
-      arrives g (own-sweeps s c v (marked-stays s t c v w e) (λ d u. rw (row-counts w .cells) at (g .memory .used-cells d u)) r)
+      arrives (omega arith) g (own-sweeps s c v (marked-stays s t c v w e) (λ d u. rw (row-counts w .cells) at (g .memory .used-cells d u)) r)
   stays-swept {t} e (Row.mutator x z pos mine r) =
       let w = Row.mutator x z pos mine r in
       aside-sweeps s t c v w e (λ d u. ⊎-elim (λ i. i) (λ i. absurd (omega (arith, i .1 .1))) (used-or-freed s t c v w d u)) (row-aside s t c (v .inv .formed) w 0 (λ i. omega arith))

@@ -45,10 +45,10 @@ abbrev pub RowFills : Type 0
 RowFills = (s t : State) (c : Choice) → WellFormed s → Row s c t → Fills c (mover s c) (t .memory) (waitingOf s (c .process)) (waitingOf t (c .process))
 
 abbrev pub RowTurns : Type 0
-RowTurns = (s t : State) (c : Choice) → WellFormed s → Row s c t → Turns (s .system .work) (waitingOf s (c .process)) (mover s c) (processOf t (c .process))
+RowTurns = (s t : State) (c : Choice) → WellFormed s → Row s c t → Turns (s .system .work) (t .system .work) (waitingOf s (c .process)) (mover s c) (processOf t (c .process))
 
 abbrev pub RowGrips : Type 0
-RowGrips = (s t : State) (c : Choice) → WellFormed s → Row s c t → Grips s c (c .process) (mover s c) (processOf t (c .process))
+RowGrips = (s t : State) (c : Choice) → WellFormed s → Row s c t → Grips s t c (c .process) (mover s c) (processOf t (c .process))
 
 abbrev pub RowPaces : Type 0
 RowPaces = (s t : State) (c : Choice) → WellFormed s → Row s c t → Paces (mover s c) (processOf t (c .process))

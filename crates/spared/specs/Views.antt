@@ -6,7 +6,7 @@ use mathlib.Core.Bool.{Bool, true, false}
 use mathlib.Core.List.{List, [], _∷_, _++_, List·Memᴰ}
 use mathlib.Core.Logic.{_⊎_}
 use Prim.Native.Nat.{ℕ, _<_}
-use Rattle.cells.specs.Sets.{noCells, Member, addOf, removeOf}
+use Rattle.cells.specs.Sets.{noCells, Member, addOf, removeOf, unionOf}
 use Rattle.buffers.specs.declared.Store.{Store}
 use Rattle.buffers.specs.declared.Store.the-variants as store
 use Rattle.buffers.specs.declared.Entry.{Entry}
@@ -65,30 +65,30 @@ pub data Fills (c : Choice) (q : Process) (n : Memory) (l k : List Entry) : Type
   -- "A commit applies one's oldest store": it leaves, and nothing comes
   leaves : c .kind ≡ 1 → (e : Entry) → List·Memᴰ e l → ((d : Entry) → List·Memᴰ d k → List·Memᴰ d l) → marksIn l ≡ marksIn (e ∷ k) → ((x : ℕ) (b : Bool) → e .store ≡ store.Mark x b → markOf n x ≡ b) → Fills c q n l k
 
--- ---- the list of the process that steps, and the cell that it greys: q, whose pending stores are l, becomes o; w is
--- the system's list
-pub data Turns (w : ℕ) (l : List Entry) (q o : Process) : Type 0 where
-  keeps : o .work ≡ q .work → o .grey ≡ q .grey → Turns w l q o
+-- ---- the list of the process that steps, and the cell that it greys: q, whose pending stores are l, becomes o; the
+-- system's list w becomes u
+pub data Turns (w u : ℕ) (l : List Entry) (q o : Process) : Type 0 where
+  keeps : o .work ≡ q .work → o .grey ≡ q .grey → u ≡ w → Turns w u l q o
   -- "write mark := noted fM (r is now being greyed)"
-  greys : {r : ℕ} → Marks q r → q .stage ≡ writeStage → o .work ≡ q .work → q .grey ≡ 0 → o .grey ≡ r → Turns w l q o
+  greys : {r : ℕ} → Marks q r → q .stage ≡ writeStage → o .work ≡ q .work → q .grey ≡ 0 → o .grey ≡ r → u ≡ w → Turns w u l q o
   -- "The unlock also puts a winner's r on its list and ends its greying."
-  wins : {r : ℕ} → Marks q r → q .stage ≡ unlockStage → l ≡ [] → (q .grey ≡ 0 → ⊥) → o .work ≡ addOf (q .work) r → o .grey ≡ 0 → Turns w l q o
+  wins : {r : ℕ} → Marks q r → q .stage ≡ unlockStage → l ≡ [] → (q .grey ≡ 0 → ⊥) → o .work ≡ addOf (q .work) r → o .grey ≡ 0 → u ≡ w → Turns w u l q o
   -- "for roots or work, moves its list to the system's"
-  gives : (At rootsFinish noStage q) ⊎ (At workFinish noStage q) → o .work ≡ noCells → o .grey ≡ q .grey → Turns w l q o
+  gives : (At rootsFinish noStage q) ⊎ (At workFinish noStage q) → o .work ≡ noCells → o .grey ≡ q .grey → u ≡ unionOf w (q .work) → Turns w u l q o
   -- "take the system's list (one step, emptying it; it replaces the collector's own)"
-  takes : (At row6Take noStage q) ⊎ (At row8Take noStage q) → o .work ≡ w → o .grey ≡ q .grey → Turns w l q o
+  takes : (At row6Take noStage q) ⊎ (At row8Take noStage q) → o .work ≡ w → o .grey ≡ q .grey → u ≡ noCells → Turns w u l q o
   -- "drop x (one step)"
-  drops : At row7Drop noStage q → o .work ≡ removeOf (q .work) (q .x) → o .grey ≡ q .grey → Turns w l q o
+  drops : At row7Drop noStage q → o .work ≡ removeOf (q .work) (q .x) → o .grey ≡ q .grey → u ≡ w → Turns w u l q o
 
--- ---- the roots of the process that steps, and its old value
-pub data Grips (s : State) (c : Choice) (p : ℕ) (q o : Process) : Type 0 where
-  keeps : o .roots ≡ q .roots → o .old ≡ q .old → Grips s c p q o
-  allocates : At top noStage q → c .op ≡ 0 → usedOf (s .memory) (c .x) ≡ false → o .roots ≡ addOf (q .roots) (c .x) → o .old ≡ q .old → Grips s c p q o
-  drops : At top noStage q → o .roots ≡ removeOf (q .roots) (c .x) → o .old ≡ q .old → Grips s c p q o
-  reads : At top noStage q → Member (q .roots) (c .x) → c .f < maxFields → {v : ℕ} → lookFieldOf (s .memory) p (c .x) (c .f) ≡ seesValue v → o .roots ≡ addOf (q .roots) v → o .old ≡ q .old → Grips s c p q o
-  stores : At top noStage q → Member (q .roots) (c .x) → c .f < maxFields → {v : ℕ} → lookFieldOf (s .memory) p (c .x) (c .f) ≡ seesValue v → o .roots ≡ q .roots → o .old ≡ v → Grips s c p q o
+-- ---- the roots of the process that steps, and its old value; the state s becomes t
+pub data Grips (s t : State) (c : Choice) (p : ℕ) (q o : Process) : Type 0 where
+  keeps : o .roots ≡ q .roots → o .old ≡ q .old → Grips s t c p q o
+  allocates : At top noStage q → c .op ≡ 0 → usedOf (s .memory) (c .x) ≡ false → usedOf (t .memory) (c .x) ≡ true → markOf (t .memory) (c .x) ≡ s .memory .fa → o .roots ≡ addOf (q .roots) (c .x) → o .old ≡ q .old → Grips s t c p q o
+  drops : At top noStage q → o .roots ≡ removeOf (q .roots) (c .x) → o .old ≡ q .old → Grips s t c p q o
+  reads : At top noStage q → Member (q .roots) (c .x) → c .f < maxFields → {v : ℕ} → lookFieldOf (s .memory) p (c .x) (c .f) ≡ seesValue v → o .roots ≡ addOf (q .roots) v → o .old ≡ q .old → Grips s t c p q o
+  stores : At top noStage q → Member (q .roots) (c .x) → c .f < maxFields → {v : ℕ} → lookFieldOf (s .memory) p (c .x) (c .f) ≡ seesValue v → o .roots ≡ q .roots → o .old ≡ v → Grips s t c p q o
   -- "write the field, clearing the honorary root"
-  writes : At storeWrite noStage q → o .roots ≡ q .roots → o .old ≡ 0 → Grips s c p q o
+  writes : At storeWrite noStage q → o .roots ≡ q .roots → o .old ≡ 0 → Grips s t c p q o
 
 -- ---- the handshake phase of the process that steps
 pub data Paces (q o : Process) : Type 0 where
