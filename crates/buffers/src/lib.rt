@@ -1,5 +1,6 @@
 // "Each owns a FIFO buffer of at most 8 pending stores": a store, and a buffer of them, oldest first.
 mod ranges;
+pub mod sources;
 mod stores;
 
 ghost use mathlib.Core.Path.{_≡_};

@@ -76,17 +76,26 @@ abbrev pub free33 : ℕ → ℕ → List ℕ
 free33 v w = 0x4D ∷ 0x47 ∷ 0x54 ∷ v ∷ 0x00 ∷ 33 ∷ 0x01 ∷ replicate (3 * 33 + w) 0
 
 -- ---- the table
+-- the numbers of the judge's line: "The program's line stays."
+pub record Numbers : Type 0 where
+  pub steps : ℕ
+  pub stop : ℕ
+  pub verdict : ℕ
+
+abbrev pub lineOf : Outcome → Numbers
+lineOf o = record { steps = o .steps; stop = o .stop; verdict = o .verdict }
+
 pub record Case : Type 0 where
   pub number : ℕ
   pub log : List ℕ
-  pub outcome : Outcome
+  pub outcome : Numbers
 
-abbrev pub case : ℕ → List ℕ → Outcome → Case
+abbrev pub case : ℕ → List ℕ → Numbers → Case
 case number log outcome = record { number = number; log = log; outcome = outcome }
 
 infix 20 steps_stop_verdict_
 -- the three numbers, in the order of the judge's line
-abbrev pub steps_stop_verdict_ : ℕ → ℕ → ℕ → Outcome
+abbrev pub steps_stop_verdict_ : ℕ → ℕ → ℕ → Numbers
 steps n stop m verdict v = record { steps = n; stop = m; verdict = v }
 
 abbrev pub table : List Case
@@ -127,5 +136,5 @@ pub record BothIdle (s : State) : Type 0 where
 
 -- every case of the table gives its three numbers, and case 11 ends with both phases Idle
 pub record MarkedLogs : Type 0 where
-  pub numbers : Forall (λ c. judgeOf (c .log) ≡ c .outcome) table
+  pub numbers : Forall (λ c. lineOf (judgeOf (c .log)) ≡ c .outcome) table
   pub idle : BothIdle (ranOf (base ++ round) .state)

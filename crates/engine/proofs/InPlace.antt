@@ -5,6 +5,7 @@
 --     let-in, seat-number      what stands at the seat will do for the process: a record that is let in names one of
 --                              the state's
 --     loop-refused, -unseen, -unmade, -taken     the step by what stands at the seats
+--     loop-read                                  and where the value came from that it was told
 use mathlib.Core.Path.{_≡_, refl, sym, ap, _∙_}
 use mathlib.Core.Bool.{Bool, true, false}
 use mathlib.Core.List.{List}
@@ -34,6 +35,7 @@ use Rattle.state.specs.Acts.{handedOf, shakenOf, settingOf, wentOf, seatOf, upO
 use Rattle.state.proofs.Lists.{seat-there, up-here}
 use Rattle.own.specs.Owns.{answeredOf}
 use Rattle.engine.specs.Steps.{refusesOf, askOf, goOf, innerOf}
+use Rattle.engine.specs.Readings.{readBy}
 
 -- the number of the checks before memory, where the process is q
 abbrev pub numberOf : State → Choice → Process → ℕ
@@ -111,6 +113,10 @@ module _ (s : State) (c : Choice) (sized : length (s .procs) ≡ maxProcesses) (
 
     here : sits ≡ processOf s (c .process)
     here = ap (processOf s) at-place
+
+    pub loop-read : v .from ≡ readBy s c
+    unfolding readBy
+    loop-read = rw (sees, asks, here) refl
 
     pub loop-unseen : (v .no ≡ 0 → ⊥) → innerOf s c .no ≡ v .no
     loop-unseen z = ap (λ (x : Answer). x .no) (step-unseen s c sits here zero a asks v sees z)

@@ -3,3 +3,4 @@ pub mod ByKind
 pub mod Located
 pub mod Theorems
 pub mod Runs
+pub mod Readings

@@ -1,3 +1,4 @@
 pub mod Steps
 pub mod Statements
 pub mod Runs
+pub mod Readings

@@ -13,7 +13,22 @@ fn say(text: &[u8]) {
     io::write_all(1, text);
 }
 
-fn tell(o: Outcome) {
+// The numbers of the judge's line, which are those of the table.
+struct Numbers {
+    steps: u32,
+    stop: u8,
+    verdict: u8,
+}
+
+fn line_of(o: Outcome) -> Numbers {
+    Numbers {
+        steps: o.steps,
+        stop: o.stop,
+        verdict: o.verdict,
+    }
+}
+
+fn tell(o: Numbers) {
     say(b" steps ");
     io::print_decimal(1, o.steps as u64);
     say(b" stop ");
@@ -22,13 +37,13 @@ fn tell(o: Outcome) {
     io::print_decimal(1, o.verdict as u64);
 }
 
-fn same(a: Outcome, b: Outcome) -> bool {
+fn same(a: Numbers, b: Numbers) -> bool {
     a.steps == b.steps && a.stop == b.stop && a.verdict == b.verdict
 }
 
 // The numbers expected of a case.
-fn expected(case: &[u8]) -> Outcome {
-    Outcome {
+fn expected(case: &[u8]) -> Numbers {
+    Numbers {
         steps: byte(case, 1) as u32,
         stop: byte(case, 2),
         verdict: byte(case, 3),
@@ -36,11 +51,11 @@ fn expected(case: &[u8]) -> Outcome {
 }
 
 // The numbers that the judge gives for its log.
-fn given(case: &[u8]) -> Outcome {
+fn given(case: &[u8]) -> Numbers {
     if case.len() < HEAD {
-        return runlog::judge(case);
+        return line_of(runlog::judge(case));
     }
-    runlog::judge(&case[HEAD..])
+    line_of(runlog::judge(&case[HEAD..]))
 }
 
 // The line of a case; 1 if it differs.

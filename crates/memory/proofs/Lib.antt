@@ -12,4 +12,5 @@ pub mod Views
 pub mod Again
 pub mod Tellings
 pub mod Laws
+pub mod Origins
 pub mod SetterLaws

@@ -13,7 +13,7 @@
 --                                                                                                 whether the spot is
 --                                                                                                 there, and by the
 --                                                                                                 view
-use mathlib.Core.Path.{_≡_, refl, ap}
+use mathlib.Core.Path.{_≡_, refl, sym, ap}
 use mathlib.Core.Bool.{Bool, true, false}
 use Prim.Native.Nat.{ℕ}
 use native.Mathlib.Omega.{arith}
@@ -21,11 +21,15 @@ use Rattle.base.specs.Pick.{pick}
 use Rattle.base.specs.Refusals.{asTaken, byBlocked, byFree}
 use Rattle.buffers.specs.declared.Spot.{Spot}
 use Rattle.buffers.specs.declared.Spot.the-variants as spot
+use Rattle.buffers.specs.declared.Newest.{Newest}
+use Rattle.buffers.specs.declared.Newest.the-variants.{Nothing, Hit}
 use Rattle.buffers.specs.Stores.{bitOf, valueOf, phaseOf}
+use Rattle.buffers.specs.Buffers.{pendingOf}
+use Rattle.buffers.proofs.Nearest.{source-none}
 use Rattle.memory.specs.declared.Memory.{Memory}
 use Rattle.memory.specs.declared.Seen.{Seen}
-use Rattle.memory.specs.Memories.{unseen, usedOf, blockedOf, thereOf}
-use Rattle.memory.specs.Looks.{seenOf, lookOf, seenBit, seenValue, seenPhase, lookMarkOf, lookFieldOf, lookSenseOf, lookPhaseOf, sweptOf, lookSweptOf}
+use Rattle.memory.specs.Memories.{unseen, usedOf, bufferOf, blockedOf, thereOf}
+use Rattle.memory.specs.Looks.{ownNewestOf, sourceOf, sourceBy, fromOf, sweptFromOf, seenOf, lookOf, seenBit, seenValue, seenPhase, lookMarkOf, lookFieldOf, lookSenseOf, lookPhaseOf, sweptOf, lookSweptOf}
 use Rattle.memory.specs.Views.{viewOf}
 use Rattle.memory.specs.Refusals.{LookNumbers}
 use Rattle.memory.proofs.Spots.{there-mark, there-field, there-sense, there-phase}
@@ -133,6 +137,29 @@ module _ (m : Memory) (p : ℕ) where
       go true e u f = one byBlocked asTaken (blockedOf m p) (λ x. omega arith) (rw (swept-blocked c e, e) refl) (itself (blockedOf m p))
       go false e true f = one byBlocked asTaken (blockedOf m p) (λ x. omega arith) (rw (swept-used c e f, e) refl) (itself (blockedOf m p))
       go false e false f = one byBlocked asTaken (blockedOf m p) (λ x. omega arith) (rw (swept-free c e f, e) refl) (itself (blockedOf m p))
+
+-- ---- where a value came from: by the newest store of one's own
+pub source-by : (m : Memory) (p : ℕ) (at : Spot) → sourceBy (ownNewestOf m p at) (sourceOf m p at) ≡ sourceOf m p at
+source-by m p at = go (ownNewestOf m p at) refl
+  where
+    go : (n : Newest) → ownNewestOf m p at ≡ n → sourceBy n (sourceOf m p at) ≡ sourceOf m p at
+    go Nothing e = sym (source-none at (pendingOf (bufferOf m p)) e)
+    go (Hit s) e = refl
+
+-- ---- the sweep's look: a free cell's mark is read too
+module _ (m : Memory) (p : ℕ) where
+  pub swept-from-free : (c : ℕ) → lookMarkOf m p c .no ≡ byFree → sweptFromOf m p c ≡ sourceOf m p (spot.Mark c)
+  unfolding sweptFromOf
+  swept-from-free c e = rw (look-mark-no m p c .third .0 e .0)
+
+  pub swept-from-used : (c : ℕ) → (lookMarkOf m p c .no ≡ byFree → ⊥) → sweptFromOf m p c ≡ fromOf m p (spot.Mark c)
+  unfolding sweptFromOf fromOf
+  swept-from-used c ne = go (blockedOf m p) refl (usedOf m c) refl
+    where
+      go : (t : Bool) → blockedOf m p ≡ t → (u : Bool) → usedOf m c ≡ u → sweptFromOf m p c ≡ fromOf m p (spot.Mark c)
+      go true e u f = rw e
+      go false e true f = rw (e, there-mark m c, f)
+      go false e false f = absurd (ne (look-mark-no m p c .third .1 (e, f)))
 
 -- ---- a look is decided by the lock, by whether the spot is there, and by the view
 pub look-same : (m n : Memory) (q : ℕ) (at : Spot) → blockedOf n q ≡ blockedOf m q → thereOf n at ≡ thereOf m at → viewOf n q at ≡ viewOf m q at → lookOf n q at ≡ lookOf m q at

@@ -5,6 +5,7 @@ use Prim.Native.Nat.{ℕ}
 use Rattle.base.specs.Refusals.{asTaken}
 use Rattle.buffers.specs.declared.Store.the-variants as store
 use Rattle.buffers.specs.declared.Spot.{Spot}
+use Rattle.buffers.specs.declared.sources.Source.the-variants as source
 use Rattle.buffers.specs.Stores.{noStore}
 use Rattle.memory.specs.declared.Memory.{Memory}
 use Rattle.memory.specs.declared.Done.{Done}
@@ -14,20 +15,20 @@ use Rattle.memory.specs.declared.asks.Ask.{Ask}
 use Rattle.memory.specs.declared.asks.Ask.the-variants as ask
 use Rattle.memory.specs.declared.asks.Sight.{Sight}
 use Rattle.memory.specs.Memories.{taken}
-use Rattle.memory.specs.Looks.{lookOf, lookSweptOf}
+use Rattle.memory.specs.Looks.{lookOf, lookSweptOf, fromOf, sweptFromOf}
 use Rattle.memory.specs.Steps.{writeOf, commitOf, fenceOf, lockOf, unlockOf, allocateOf, freeOf}
 
--- ---- asks that change nothing. Nothing is seen
+-- ---- asks that change nothing. Nothing is seen, and nothing was read
 abbrev pub blind : ℕ → Sight
-blind n = record { no = n; used = false; store = noStore }
+blind n = record { no = n; used = false; store = noStore; from = source.Nothing }
 
--- "A read gives the newest matching store of the reader's own buffer, else memory"; the sweep's look finds a free
--- cell too
+-- "A read gives the newest matching store of the reader's own buffer, else memory", and says which; the sweep's look
+-- finds a free cell too
 unfoldable pub lookedOf : Memory → ℕ → Spot → Sight
-lookedOf m p at = let l = lookOf m p at in record { no = l .no; used = false; store = l .store }
+lookedOf m p at = let l = lookOf m p at in record { no = l .no; used = false; store = l .store; from = fromOf m p at }
 
 unfoldable pub sweptSight : Memory → ℕ → ℕ → Sight
-sweptSight m p x = let l = lookSweptOf m p x in record { no = l .no; used = l .used; store = store.Mark x (l .bit) }
+sweptSight m p x = let l = lookSweptOf m p x in record { no = l .no; used = l .used; store = store.Mark x (l .bit); from = sweptFromOf m p x }
 
 abbrev pub sightOf : Memory → ℕ → Ask → Sight
 sightOf m p ask.Nothing = blind asTaken

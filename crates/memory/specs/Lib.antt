@@ -8,5 +8,6 @@ pub mod Numbers
 pub mod Refusals
 pub mod Effects
 pub mod Sights
+pub mod Origins
 pub mod Laws
 pub mod SetterLaws

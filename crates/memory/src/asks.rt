@@ -5,6 +5,7 @@ use base::Refusal;
 use buffers::Entry;
 use buffers::Spot;
 use buffers::Store;
+use buffers::sources::Source;
 ghost use mathlib.Core.Path.{_≡_};
 ghost use Rattle.memory.specs.Asks.{blind, lookedOf, sweptSight, sightOf, changes, doneOf, madeOf};
 
@@ -46,11 +47,12 @@ impl Ask {
 }
 
 // What an ask that changes nothing is told: the number, 0 for taken; what was seen, said as the store that would
-// write it; whether the sweep's cell is occupied.
+// write it, and where that came from; whether the sweep's cell is occupied.
 pub struct Sight {
     pub no: u8,
     pub used: bool,
     pub store: Store,
+    pub from: Source,
 }
 
 impl Sight {
@@ -65,6 +67,7 @@ impl Sight {
                 cell: 0,
                 bit: false,
             },
+            from: Source::Nothing,
         }
     }
 }
@@ -73,19 +76,24 @@ impl Memory {
     fn looked(self, p: u8, at: Spot) -> Sight
         ensures { λ r. ⌜ r ≡ lookedOf self p at ⌝ }
     {
-        let seen = self.look(p, at);
-        let store = seen.store;
+        let read = self.look(p, at);
+        let saw = read.seen;
+        let store = saw.store;
+        let from = read.from;
         Sight {
-            no: seen.no,
+            no: saw.no,
             used: false,
             store,
+            from,
         }
     }
 
     fn swept(self, p: u8, x: u8) -> Sight
         ensures { λ r. ⌜ r ≡ sweptSight self p x ⌝ }
     {
-        let seen = self.look_swept(p, x);
+        let read = self.look_swept(p, x);
+        let seen = read.seen;
+        let from = read.from;
         Sight {
             no: seen.no,
             used: seen.used,
@@ -93,6 +101,7 @@ impl Memory {
                 cell: x,
                 bit: seen.bit,
             },
+            from,
         }
     }
 

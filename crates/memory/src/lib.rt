@@ -2,14 +2,17 @@
 pub mod asks;
 mod heap;
 mod looks;
+mod places;
 mod steps;
 
 use base::Refusal;
 use buffers::Buffer;
 use buffers::Phase;
 use buffers::Store;
+use buffers::sources::Source;
 ghost use mathlib.Core.Path.{_≡_};
 ghost use Rattle.memory.specs.Memories.{taken, refused, unseen, pendingLenOf, blockedOf};
+ghost use Rattle.memory.specs.Looks.{unread};
 
 // The phase as memory holds it: a struct, so that it can be stored to as a field.
 pub struct PhaseWord {
@@ -69,6 +72,32 @@ pub struct Swept {
     pub bit: bool,
 }
 
+// What each look tells: what it saw, and where that came from. Nothing was read where it is refused.
+pub struct Read {
+    pub seen: Seen,
+    pub from: Source,
+}
+
+pub struct ReadBit {
+    pub seen: SeenBit,
+    pub from: Source,
+}
+
+pub struct ReadValue {
+    pub seen: SeenValue,
+    pub from: Source,
+}
+
+pub struct ReadPhase {
+    pub seen: SeenPhase,
+    pub from: Source,
+}
+
+pub struct ReadSwept {
+    pub seen: Swept,
+    pub from: Source,
+}
+
 // Limits: cells, and processes with the collector.
 impl Memory {
     pub const CELLS: usize = 64;
@@ -86,6 +115,18 @@ impl Seen {
                 cell: 0,
                 bit: false,
             },
+        }
+    }
+}
+
+impl Read {
+    fn refused(no: u8) -> Read
+        ensures { λ r. ⌜ r ≡ unread no ⌝ }
+    {
+        let seen = Seen::refused(no);
+        Read {
+            seen,
+            from: Source::Nothing,
         }
     }
 }

@@ -1,6 +1,12 @@
 // "A read gives the newest matching store of the reader's own buffer, else memory, and needs the reader unblocked."
-// One look serves all reads; the others say what it saw as a bit, a value or a phase.
+// One look serves all reads; the others say what it saw as a bit, a value or a phase. Each says "whether it saw the
+// reader's own pending store or memory, with the place in the buffer".
 use super::Memory;
+use super::Read;
+use super::ReadBit;
+use super::ReadPhase;
+use super::ReadSwept;
+use super::ReadValue;
 use super::Seen;
 use super::SeenBit;
 use super::SeenPhase;
@@ -10,7 +16,7 @@ use base::Refusal;
 use buffers::Newest;
 use buffers::Spot;
 ghost use mathlib.Core.Path.{_≡_};
-ghost use Rattle.memory.specs.Looks.{ownNewestOf, lookOf, lookMarkOf, lookFieldOf, lookSenseOf, lookPhaseOf, lookSweptOf};
+ghost use Rattle.memory.specs.Looks.{ownNewestOf, readOf, readMarkOf, readFieldOf, readSenseOf, readPhaseOf, sweptOf, readSweptOf};
 
 impl Memory {
     // The newest store to the spot in p's own buffer.
@@ -26,83 +32,103 @@ impl Memory {
     }
 
     // Refused by 7 where p is blocked, by 11 where the spot is a mark or field of a free cell.
-    pub fn look(self, p: u8, at: Spot) -> Seen
-        ensures { λ r. ⌜ r ≡ lookOf self p at ⌝ }
+    pub fn look(self, p: u8, at: Spot) -> Read
+        ensures { λ r. ⌜ r ≡ readOf self p at ⌝ }
     {
         if self.blocked(p) {
-            return Seen::refused(Refusal::BLOCKED);
+            return Read::refused(Refusal::BLOCKED);
         }
         if self.there(at) {
             let own = self.newest(p, at);
             let stands = self.stands(at);
-            return Seen {
+            let store = own.store_or(stands);
+            let from = self.source_by(p, at, own);
+            let seen = Seen {
                 no: Refusal::TAKEN,
-                store: own.store_or(stands),
+                store,
             };
+            return Read { seen, from };
         }
-        Seen::refused(Refusal::FREE)
+        Read::refused(Refusal::FREE)
     }
 
-    pub fn look_mark(self, p: u8, c: u8) -> SeenBit
-        ensures { λ r. ⌜ r ≡ lookMarkOf self p c ⌝ }
+    pub fn look_mark(self, p: u8, c: u8) -> ReadBit
+        ensures { λ r. ⌜ r ≡ readMarkOf self p c ⌝ }
     {
-        let seen = self.look(p, Spot::Mark(c));
-        let s = seen.store;
-        SeenBit {
-            no: seen.no,
+        let read = self.look(p, Spot::Mark(c));
+        let saw = read.seen;
+        let s = saw.store;
+        let seen = SeenBit {
+            no: saw.no,
             bit: s.bit_in(),
-        }
+        };
+        let from = read.from;
+        ReadBit { seen, from }
     }
 
-    pub fn look_field(self, p: u8, c: u8, f: u8) -> SeenValue
-        ensures { λ r. ⌜ r ≡ lookFieldOf self p c f ⌝ }
+    pub fn look_field(self, p: u8, c: u8, f: u8) -> ReadValue
+        ensures { λ r. ⌜ r ≡ readFieldOf self p c f ⌝ }
     {
-        let seen = self.look(p, Spot::Field { cell: c, field: f });
-        let s = seen.store;
-        SeenValue {
-            no: seen.no,
+        let read = self.look(p, Spot::Field { cell: c, field: f });
+        let saw = read.seen;
+        let s = saw.store;
+        let seen = SeenValue {
+            no: saw.no,
             value: s.value_in(),
-        }
+        };
+        let from = read.from;
+        ReadValue { seen, from }
     }
 
-    pub fn look_sense(self, p: u8) -> SeenBit
-        ensures { λ r. ⌜ r ≡ lookSenseOf self p ⌝ }
+    pub fn look_sense(self, p: u8) -> ReadBit
+        ensures { λ r. ⌜ r ≡ readSenseOf self p ⌝ }
     {
-        let seen = self.look(p, Spot::Sense);
-        let s = seen.store;
-        SeenBit {
-            no: seen.no,
+        let read = self.look(p, Spot::Sense);
+        let saw = read.seen;
+        let s = saw.store;
+        let seen = SeenBit {
+            no: saw.no,
             bit: s.bit_in(),
-        }
+        };
+        let from = read.from;
+        ReadBit { seen, from }
     }
 
-    pub fn look_phase(self, p: u8) -> SeenPhase
-        ensures { λ r. ⌜ r ≡ lookPhaseOf self p ⌝ }
+    pub fn look_phase(self, p: u8) -> ReadPhase
+        ensures { λ r. ⌜ r ≡ readPhaseOf self p ⌝ }
     {
-        let seen = self.look(p, Spot::Phase);
-        let s = seen.store;
-        SeenPhase {
-            no: seen.no,
+        let read = self.look(p, Spot::Phase);
+        let saw = read.seen;
+        let s = saw.store;
+        let seen = SeenPhase {
+            no: saw.no,
             phase: s.phase_in(),
-        }
+        };
+        let from = read.from;
+        ReadPhase { seen, from }
     }
 
-    // "the sweep's look excepted": a free cell is no refusal here.
-    pub fn look_swept(self, p: u8, c: u8) -> Swept
-        ensures { λ r. ⌜ r ≡ lookSweptOf self p c ⌝ }
+    // "the sweep's look excepted": a free cell is no refusal here, and the look at it reads like any other.
+    pub fn look_swept(self, p: u8, c: u8) -> ReadSwept
+        ensures { λ r. ⌜ r ≡ readSweptOf self p c ⌝ }
     {
-        let seen = self.look_mark(p, c);
-        if seen.no == Refusal::FREE {
-            return Swept {
+        let read = self.look_mark(p, c);
+        let marked = read.seen;
+        if marked.no == Refusal::FREE {
+            let seen = Swept {
                 no: Refusal::TAKEN,
                 used: false,
                 bit: false,
             };
+            let from = self.source(p, Spot::Mark(c));
+            return ReadSwept { seen, from };
         }
-        Swept {
-            no: seen.no,
-            used: seen.no == Refusal::TAKEN,
-            bit: seen.bit,
-        }
+        let seen = Swept {
+            no: marked.no,
+            used: marked.no == Refusal::TAKEN,
+            bit: marked.bit,
+        };
+        let from = read.from;
+        ReadSwept { seen, from }
     }
 }

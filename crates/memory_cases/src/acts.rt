@@ -4,6 +4,7 @@
 //     c p   commits      f p   fences      l p   locks      u p   unlocks      a p c   allocates      d p c   frees
 //     F p c f   reads the field      M p c   looks at the mark      S p   reads fM      H p   reads the phase      E
 //               p c   looks for the sweep
+//     O p c f   where a read of the field comes from      Q p c   where the sweep's look comes from
 //     P p   how many are pending      U . c   occupied or not      W   well formed or not
 // and what no step does, for malformed memories:
 //     0   all cells free      1 . . . v   v cells      2 . . . v   v processes      3 . c   c occupied      4 . . . v
@@ -18,12 +19,13 @@ use buffers::Buffer;
 use buffers::Entry;
 use buffers::Phase;
 use buffers::Store;
+use buffers::sources::Source;
 use memory::Done;
 use memory::Memory;
-use memory::SeenBit;
-use memory::SeenPhase;
-use memory::SeenValue;
-use memory::Swept;
+use memory::ReadBit;
+use memory::ReadPhase;
+use memory::ReadSwept;
+use memory::ReadValue;
 
 // ---- answers
 
@@ -42,16 +44,19 @@ fn saw(no: u8, value: u64) {
     io::print_decimal(1, value);
 }
 
-fn saw_bit(s: SeenBit) {
+fn saw_bit(r: ReadBit) {
+    let s = r.seen;
     saw(s.no, bit(s.bit));
 }
 
-fn saw_value(s: SeenValue) {
+fn saw_value(r: ReadValue) {
+    let s = r.seen;
     saw(s.no, s.value as u64);
 }
 
 // A phase by its place among Idle, Init, Mark, Sweep.
-fn saw_phase(s: SeenPhase) {
+fn saw_phase(r: ReadPhase) {
+    let s = r.seen;
     let phase = s.phase;
     match phase {
         Phase::Idle => saw(s.no, 0),
@@ -61,10 +66,26 @@ fn saw_phase(s: SeenPhase) {
     }
 }
 
-fn saw_swept(s: Swept) {
+fn saw_swept(r: ReadSwept) {
+    let s = r.seen;
     saw(s.no, bit(s.used));
     say(b":");
     io::print_decimal(1, bit(s.bit));
+}
+
+// "0 for memory, the place plus 1 for the own buffer, 255 if nothing was read"
+fn came(from: Source) {
+    tell(from.number() as u64);
+}
+
+fn value_came(r: ReadValue) {
+    let from = r.from;
+    came(from);
+}
+
+fn swept_came(r: ReadSwept) {
+    let from = r.from;
+    came(from);
 }
 
 // ---- stores
@@ -124,6 +145,8 @@ fn look(m: Memory, a: Act) {
         b'S' => saw_bit(m.look_sense(a.p)),
         b'H' => saw_phase(m.look_phase(a.p)),
         b'E' => saw_swept(m.look_swept(a.p, a.c)),
+        b'O' => value_came(m.look_field(a.p, a.c, a.f)),
+        b'Q' => swept_came(m.look_swept(a.p, a.c)),
         b'P' => tell(m.pending(a.p) as u64),
         b'U' => tell(bit(m.is_used(a.c))),
         _ => tell(bit(memory_formed::well_formed(m))),

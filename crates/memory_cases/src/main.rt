@@ -1,6 +1,7 @@
 // Runs memory on a table of sequences made by hand and prints a line for each: what was done, and each answer in
 // turn. The file stdout beside src/ has what document 01 and x86-TSO want. An answer is document 01's number, 0 for
-// taken. A look prints it with what it saw, as 0:2, and the sweep's look as number:occupied:mark.
+// taken. A look prints it with what it saw, as 0:2, and the sweep's look as number:occupied:mark. Where a value comes
+// from is document 02's number.
 // Each sequence begins with three cells, of which 1 and 2 are occupied with mark 1 and null fields, fM and fA 1,
 // phase Idle, processes 0 to 2.
 // In the table x is field 0 of cell 1, y is field 0 of cell 2, z is field 0 of cell 3; "1 writes x" is a step of
@@ -11,6 +12,7 @@ mod forms;
 mod heaps;
 mod locks;
 mod orders;
+mod origins;
 mod rooms;
 
 use buffers::Buffer;
@@ -108,4 +110,5 @@ fn main() {
     heaps::lines();
     bounds::lines();
     forms::lines();
+    origins::lines();
 }

@@ -12,6 +12,7 @@ use native.Mathlib.Decide.{ℕ-discrete}
 use lib.ListN.{length, take, length-append, List·getD-append}
 use lib.Seq.{getD-take, length-take-le}
 use Rattle.base.specs.Refusals.{fewLeft}
+use Rattle.buffers.specs.declared.sources.Source.{Source}
 use Rattle.state.specs.declared.State.{State}
 use Rattle.state.specs.declared.opening.Heap.{Heap}
 use Rattle.state.specs.Openings.{openingOf}
@@ -23,7 +24,7 @@ use Rattle.header.proofs.Same.{header-decides, cut-inside}
 use Rattle.runlog.specs.declared.run.Run.{Run}
 use Rattle.runlog.specs.Records.{recordSize, checkPlace, choiceAt, recordAt}
 use Rattle.runlog.specs.Runs.{startOf, onwardOf, closedOf, wholeOf, leftOf, playedOf, outcomeOf}
-use Rattle.runlog.specs.Rule.{placeOf, recordOf, Whole, Taken, none, more, Stops, ended, short, wrong, refused, RunTo, runs}
+use Rattle.runlog.specs.Rule.{placeOf, recordOf, Whole, Taken, none, more, Stops, ended, short, wrong, refused, ReadAt, LastRead, never, last, RunTo, runs}
 use Rattle.runlog.specs.Statements.{afterOf, ranOf, CutAnywhere, CutJudged, CutInHeader, CutBack, SameButLeft, CutSame, MoreBytes}
 use Rattle.runlog.proofs.Exacts.{closed-none, closed-few, closed-stays, run-to, judge-admitted, judge-refused, outcome-exactly}
 
@@ -90,9 +91,9 @@ cut-back log a =
     ap (λ (q : Run). closedOf q (leftOf log)) (sym r)
 
 closed-same : (q : Run) (l : ℕ) → Dec (q .stop ≡ 0) → Dec (l ≡ 0) → SameButLeft (closedOf q l) q
-closed-same q l (yes z) (yes e) = rw (closed-none q l z e) (record { steps = refl; state = refl; stop = inl refl })
-closed-same q l (yes z) (no n) = rw (closed-few q l z n) (record { steps = refl; state = refl; stop = inr (refl, z) })
-closed-same q l (no n) e = rw (closed-stays q l n) (record { steps = refl; state = refl; stop = inl refl })
+closed-same q l (yes z) (yes e) = rw (closed-none q l z e) (record { steps = refl; state = refl; read = refl; stop = inl refl })
+closed-same q l (yes z) (no n) = rw (closed-few q l z n) (record { steps = refl; state = refl; read = refl; stop = inr (refl, z) })
+closed-same q l (no n) e = rw (closed-stays q l n) (record { steps = refl; state = refl; read = refl; stop = inl refl })
 
 pub cut-same-run : CutSame
 cut-same-run log a =
@@ -128,11 +129,23 @@ module _ (log rest : List ℕ) (a : Admitted log) (m : length (log ++ rest) ≤ 
       let q = more-record k w in
       rw (← q) (refused (more-whole k w) (rw q r) (rw q e))
 
+  -- a record taken before k is whole
+  taken-whole : {k : ℕ} {s : State} (i : ℕ) → Taken log k s → i < k → Whole log i
+  taken-whole i none l = absurd (omega arith)
+  taken-whole i (more k s t p w r e) l = omega arith
+
+  more-at : {v : Source} (i : ℕ) → Whole log i → ReadAt log i v → ReadAt (log ++ rest) i v
+  more-at i w a = record { state = a .state; taken = more-taken (a .taken); read = rw (more-record i w) (a .read) }
+
+  more-read : {k n : ℕ} {s : State} → Taken log k s → LastRead log k n → LastRead (log ++ rest) k n
+  more-read p (never e f) = never e (λ i l. more-at i (taken-whole i p l) (f i l))
+  more-read p (last i v e n l a f) = last i v e n l (more-at i (taken-whole i p l) a) (λ j h m. more-at j (taken-whole j p m) (f j h m))
+
 pub more-bytes : MoreBytes
 unfolding outcomeOf
 more-bytes log rest a m x y =
     let j = judge-admitted log a in
     let r = run-to log a in
     let o = outcomeOf (ranOf log) in
-    let t : RunTo (log ++ rest) (outcomeOf (ranOf log)) = record { state = r .state; taken = more-taken log rest a m (r .taken); stops = more-stops log rest a m (r .stops) (rw j at x) (rw j at y); verdict = r .verdict } in
+    let t : RunTo (log ++ rest) (outcomeOf (ranOf log)) = record { state = r .state; taken = more-taken log rest a m (r .taken); stops = more-stops log rest a m (r .stops) (rw j at x) (rw j at y); verdict = r .verdict; read = more-read log rest a m (r .taken) (r .read) } in
     sym (outcome-exactly (log ++ rest) (outcomeOf (ranOf log)) .1 (runs (more-same log rest a m .admitted) t)) ∙ sym j

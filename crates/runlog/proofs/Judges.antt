@@ -5,6 +5,7 @@ use mathlib.Core.Path.{_≡_, sym, ap, _∙_}
 use mathlib.Core.Bool.{Bool}
 use mathlib.Core.List.{List}
 use Prim.Native.Nat.{ℕ}
+use Rattle.buffers.specs.Sources.{nothingRead}
 use Rattle.state.specs.declared.opening.Heap.{Heap}
 use Rattle.state.specs.Openings.{openingOf}
 use Rattle.verdict.specs.Judged.{isMalformed}
@@ -14,11 +15,11 @@ use Rattle.header.proofs.Opens.{open-yes, open-no}
 use Rattle.runlog.specs.declared.Outcome.{Outcome}
 use Rattle.runlog.specs.Runs.{playedOf, outcomeOf, judgeIf, judgeOf}
 
-pub judge-shut : (log : List ℕ) (o : Opened) → o ≡ openOf log → (o .no ≡ 0 → ⊥) → _≡_ {A = Outcome} (record { steps = 0; stop = o .no; verdict = isMalformed }) (judgeOf log)
+pub judge-shut : (log : List ℕ) (o : Opened) → o ≡ openOf log → (o .no ≡ 0 → ⊥) → _≡_ {A = Outcome} (record { steps = 0; stop = o .no; verdict = isMalformed; read = nothingRead }) (judgeOf log)
 unfolding judgeOf
 judge-shut log o e n =
     let q = open-no log o e n in
-    ap (λ (k : ℕ). record { steps = 0; stop = k; verdict = isMalformed }) (q .no) ∙ sym (ap (λ (b : Bool). judgeIf b log) (q .refused))
+    ap (λ (k : ℕ). record { steps = 0; stop = k; verdict = isMalformed; read = nothingRead }) (q .no) ∙ sym (ap (λ (b : Bool). judgeIf b log) (q .refused))
 
 pub judge-open : (log : List ℕ) (o : Opened) (r : Outcome) → o ≡ openOf log → o .no ≡ 0 → r ≡ outcomeOf (playedOf log (openingOf (o .heap))) → r ≡ judgeOf log
 unfolding judgeOf

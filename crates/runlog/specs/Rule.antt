@@ -1,15 +1,19 @@
 -- The log's rule as facts, over the whole step and the finding of any state: which records are taken, where the run
--- stops and why, and the three numbers.
+-- stops and why, and the four numbers.
 -- Assumes nothing.
 use mathlib.Core.Path.{_≡_}
 use mathlib.Core.List.{List}
 use Prim.Native.Nat.{ℕ, zero, suc, _+_, _*_, _≤_, _<_}
 use lib.ListN.{length}
 use Rattle.base.specs.Refusals.{notAdmitted, wrongCheck, fewLeft}
+use Rattle.buffers.specs.declared.sources.Source.{Source}
+use Rattle.buffers.specs.declared.sources.Source.the-variants as source
+use Rattle.buffers.specs.Sources.{nothingRead, sourceNumber}
 use Rattle.state.specs.declared.State.{State}
 use Rattle.state.specs.Openings.{openingOf}
 use Rattle.state.specs.States.{takenOf}
 use Rattle.engine.specs.Steps.{stepOf}
+use Rattle.engine.specs.Readings.{ReadFrom}
 use Rattle.verdict.specs.Judged.{isMalformed}
 use Rattle.verdict.specs.Findings.{findingOf}
 use Rattle.header.specs.Header.{sizeOf, heapOf}
@@ -49,18 +53,36 @@ pub data Stops (log : List ℕ) (k : ℕ) (s : State) : ℕ → Type 0 where
   -- "A refused record stops with its number."
   refused : Whole log k → RightCheck (recordOf log k) → (stepOf s (recordOf log k .choice) .no ≡ 0 → ⊥) → Stops log k s (stepOf s (recordOf log k .choice) .no)
 
+-- The record i + 1, taken, read from v.
+pub record ReadAt (log : List ℕ) (i : ℕ) (v : Source) : Type 0 where
+  pub state : State
+  pub taken : Taken log i state
+  pub read : ReadFrom state (recordOf log i .choice) v
+
+-- It read nothing.
+abbrev pub Blind : List ℕ → ℕ → Type 0
+Blind log i = ReadAt log i source.Nothing
+
+-- "The last such answer of a run becomes a fourth number": the last of the first k records that reads decides; "255 if
+-- nothing was read".
+pub data LastRead (log : List ℕ) (k n : ℕ) : Type 0 where
+  never : n ≡ nothingRead → ((i : ℕ) → i < k → Blind log i) → LastRead log k n
+  last : (i : ℕ) (v : Source) → n ≡ sourceNumber v → (v ≡ source.Nothing → ⊥) → i < k → ReadAt log i v → ((j : ℕ) → i < j → j < k → Blind log j) → LastRead log k n
+
 -- "The count is of the records taken before the stop; the verdict is that of the state then"
 pub record RunTo (log : List ℕ) (o : Outcome) : Type 0 where
   pub state : State
   pub taken : Taken log (o .steps) state
   pub stops : Stops log (o .steps) state (o .stop)
   pub verdict : o .verdict ≡ findingOf state .verdict
+  pub read : LastRead log (o .steps) (o .read)
 
--- "4 on stop 12"; no record is taken
+-- "4 on stop 12"; no record is taken, and nothing is read
 pub record Unopened (o : Outcome) : Type 0 where
   pub steps : o .steps ≡ 0
   pub stop : o .stop ≡ notAdmitted
   pub verdict : o .verdict ≡ isMalformed
+  pub read : o .read ≡ nothingRead
 
 pub data Judges (log : List ℕ) (o : Outcome) : Type 0 where
   shut : (Admitted log → ⊥) → Unopened o → Judges log o

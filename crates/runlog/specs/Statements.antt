@@ -31,7 +31,7 @@ use Rattle.runlog.specs.Rule.{placeOf, recordOf, Taken, Judges}
 abbrev pub OutcomeExactly : Type 0
 OutcomeExactly = (log : List ℕ) (o : Outcome) → (o ≡ judgeOf log) ↔ Judges log o
 
--- a log that is not admitted has no run: "stop 12", with no step and verdict 4
+-- a log that is not admitted has no run: "stop 12", with no step, verdict 4 and nothing read
 abbrev pub NotAdmitted : Type 0
 NotAdmitted = (log : List ℕ) → (Admitted log → ⊥) → judgeOf log ≡ notOpened
 
@@ -42,7 +42,7 @@ afterOf log k = runThrough log (sizeOf log) (openingOf (heapOf log)) k
 abbrev pub ranOf : List ℕ → Run
 ranOf log = playedOf log (openingOf (heapOf log))
 
--- the three numbers of an admitted log are those of its run
+-- the four numbers of an admitted log are those of its run
 abbrev pub NumbersOfRun : Type 0
 NumbersOfRun = (log : List ℕ) → Admitted log → judgeOf log ≡ outcomeOf (ranOf log)
 
@@ -115,7 +115,7 @@ pub record SameRecords (a b : List ℕ) : Type 0 where
   pub long : length a - sizeOf a ≡ length b - sizeOf b
   pub bytes : (i : ℕ) → byteAt a (sizeOf a + i) ≡ byteAt b (sizeOf b + i)
 
--- they have the same run, state by state, and the same three numbers, whatever their versions
+-- they have the same run, state by state, and the same four numbers, whatever their versions
 pub record SameRun (a b : List ℕ) : Type 0 where
   pub after : (k : ℕ) → afterOf a k ≡ afterOf b k
   pub ran : ranOf a ≡ ranOf b
@@ -149,10 +149,12 @@ CutInHeader = (log : List ℕ) (j : ℕ) → Admitted log → j < sizeOf log →
 abbrev pub CutBack : Type 0
 CutBack = (log : List ℕ) → Admitted log → ranOf log ≡ closedOf (ranOf (take (placeOf log (wholeOf log)) log)) (leftOf log)
 
--- that is, the same steps and the same state; and the same stop, or 14 where the whole records end with 0
+-- that is, the same steps, the same state and the same last read; and the same stop, or 14 where the whole records end
+-- with 0
 pub record SameButLeft (run whole : Run) : Type 0 where
   pub steps : run .steps ≡ whole .steps
   pub state : run .state ≡ whole .state
+  pub read : run .read ≡ whole .read
   pub stop : (run .stop ≡ whole .stop) ⊎ ((run .stop ≡ fewLeft) × (whole .stop ≡ 0))
 
 abbrev pub CutSame : Type 0

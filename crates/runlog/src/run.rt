@@ -2,6 +2,7 @@
 use super::record;
 use super::record::Record;
 use base::Stop;
+use buffers::sources::Source;
 use state::State;
 use state::acts;
 use state::acts::Setting;
@@ -12,19 +13,26 @@ ghost use Rattle.header.specs.Header.{maxLog, sizeOf};
 ghost use Rattle.runlog.specs.Records.{recordSize};
 ghost use Rattle.runlog.specs.Runs.{endedOf, stoppedOf, runThrough, closedOf, playedOf};
 
-// What a run has come to: the state, the records taken, and the stop, 0 while there is none.
+// What a run has come to: the state, the records taken, the stop, 0 while there is none, and where the last value read
+// came from.
 pub struct Run {
     pub state: State,
     pub steps: u32,
     pub stop: u8,
+    pub read: Source,
 }
 
 impl Run {
     // A run that has come to this state, so many records taken.
-    fn ended(state: State, steps: u32, stop: u8) -> Run
-        ensures { λ r. ⌜ r ≡ endedOf state steps stop ⌝ }
+    fn ended(state: State, steps: u32, stop: u8, read: Source) -> Run
+        ensures { λ r. ⌜ r ≡ endedOf state steps stop read ⌝ }
     {
-        Run { state, steps, stop }
+        Run {
+            state,
+            steps,
+            stop,
+            read,
+        }
     }
 
     // Stopped by a number: nothing else changes.
@@ -32,7 +40,8 @@ impl Run {
         ensures { λ r. ⌜ r ≡ stoppedOf no self ⌝ }
     {
         let s = self.state;
-        Run::ended(s, self.steps, no)
+        let read = self.read;
+        Run::ended(s, self.steps, no, read)
     }
 
     // "Fewer than 8 bytes left: stop 14. None left: stop 0."
@@ -58,24 +67,25 @@ fn records(log: &[u8], at: u32, start: State, whole: u32) -> Run
 {
     let mut state = start;
     let mut steps: u32 = 0;
+    let mut read = Source::Nothing;
     while steps < whole {
         let r = record::read(log, at + Record::SIZE * steps);
         let c = r.choice;
         if r.check != record::check_of(c) {
-            return Run::ended(state, steps, Stop::WRONG_CHECK);
+            return Run::ended(state, steps, Stop::WRONG_CHECK, read);
         }
         let p = c.process;
         let i = acts::seat(p);
         let q = state.procs[i];
         let no = engine::refuses(state.memory.processes, state.memory.cells, c, q);
         if no != 0 {
-            return Run::ended(state, steps, no);
+            return Run::ended(state, steps, no, read);
         }
         let ask = engine::ask(c, q);
         let m = state.memory;
         let seen = m.sight(p, ask);
         if seen.no != 0 {
-            return Run::ended(state, steps, seen.no);
+            return Run::ended(state, steps, seen.no, read);
         }
         let j = acts::seat(c.x);
         let other = state.procs[j];
@@ -91,7 +101,7 @@ fn records(log: &[u8], at: u32, start: State, whole: u32) -> Run
             let held = state.memory;
             let d = held.made(p, ask);
             if d.no != 0 {
-                return Run::ended(state, steps, d.no);
+                return Run::ended(state, steps, d.no, read);
             }
             let memory = d.memory;
             state.memory = memory;
@@ -107,9 +117,11 @@ fn records(log: &[u8], at: u32, start: State, whole: u32) -> Run
             state.procs = shaken;
         }
         state.procs[i] = next;
+        let from = seen.from;
+        read = from.after(read);
         steps += 1;
     }
-    Run::ended(state, steps, 0)
+    Run::ended(state, steps, 0, read)
 }
 
 // The run of all that follows the header.

@@ -18,4 +18,7 @@ packed-spec =
     (search needs)
     (search needs)
     (search needs)
+    (search needs)
+    (search needs)
+    (search needs)
     returns)
