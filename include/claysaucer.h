@@ -22,8 +22,9 @@ extern "C" {
  * `log` must not be null, not even where `length` is 0, and nothing may write
  * the bytes during the call. They are only read.
  *
- * The answer packs three numbers, which the macros below take apart:
- * bits 0 to 7 the verdict, 8 to 15 the stop, 16 to 31 zero, 32 to 63 the steps.
+ * The answer packs four numbers, which the macros below take apart:
+ * bits 0 to 7 the verdict, 8 to 15 the stop, 16 to 23 the last read, 24 to 31
+ * zero, 32 to 63 the steps.
  */
 uint64_t claysaucer_judge(const uint8_t *log, size_t length);
 
@@ -39,6 +40,13 @@ uint64_t claysaucer_judge(const uint8_t *log, size_t length);
 
 /* What the heap is like then: one of CLAYSAUCER_VERDICT_. */
 #define CLAYSAUCER_VERDICT(answer) ((uint8_t)(uint64_t)(answer))
+
+/*
+ * Where the last value read came from: one of CLAYSAUCER_READ_, or, if it was
+ * the reader's own pending store, its place in the reader's buffer plus 1, so
+ * 1 to 8. The oldest store has place 0.
+ */
+#define CLAYSAUCER_READ(answer) ((uint8_t)((uint64_t)(answer) >> 16))
 
 /* A longer log stops with CLAYSAUCER_STOP_NOT_ADMITTED. */
 #define CLAYSAUCER_LOG_LIMIT 65536
@@ -69,5 +77,9 @@ uint64_t claysaucer_judge(const uint8_t *log, size_t length);
 #define CLAYSAUCER_VERDICT_BLACK_TO_WHITE 2 /* a black cell has a field that names a white one */
 #define CLAYSAUCER_VERDICT_HANDSHAKE 3      /* the handshake table is broken */
 #define CLAYSAUCER_VERDICT_MALFORMED 4      /* there is no state: the stop is CLAYSAUCER_STOP_NOT_ADMITTED */
+
+/* The last reads, besides 1 to 8 for the own buffer. A refused record has read nothing. */
+#define CLAYSAUCER_READ_MEMORY 0    /* memory */
+#define CLAYSAUCER_READ_NOTHING 255 /* no record that was taken reads memory */
 
 #endif

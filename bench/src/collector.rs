@@ -6,6 +6,7 @@ use crate::marking::mark_step;
 use crate::number::Refusal;
 use crate::place::{CollectorPlace, MarkStage, RoundStage};
 use crate::state::{bit, field_bit, set_of, HandshakeType, Phase, State, Store, BOTH_FIELDS};
+use crate::step::Attempt;
 use CollectorPlace::*;
 use HandshakeType::{NoOp, Roots, Work};
 
@@ -13,7 +14,7 @@ use HandshakeType::{NoOp, Roots, Work};
 const COLLECTOR: u8 = 0;
 
 /// The collector's own step.
-pub fn own_step(state: &mut State, c: Choice) -> Result<(), Refusal> {
+pub fn own_step(state: &mut State, c: Choice) -> Attempt {
     match state.collector.place {
         Row1Round(stage) => round(state, c, (NoOp, stage), Row1Round, Row2Read),
         Row2Read => read_sense(state, c),
@@ -49,7 +50,7 @@ fn round(
     (kind, stage): (HandshakeType, RoundStage),
     here: fn(RoundStage) -> CollectorPlace,
     next: CollectorPlace,
-) -> Result<(), Refusal> {
+) -> Attempt {
     let further = match stage {
         RoundStage::Fence => round_fence(state, c)?,
         RoundStage::SetType => set_type(state, c, kind)?,
@@ -57,7 +58,7 @@ fn round(
         RoundStage::Poll => poll(state, c)?,
     };
     state.collector.place = further.map_or(next, here);
-    Ok(())
+    Ok(None)
 }
 
 /// The fence of a round.
@@ -126,48 +127,44 @@ fn all_mutators(state: &State) -> u8 {
 }
 
 /// Row 2: "read fM".
-fn read_sense(state: &mut State, c: Choice) -> Result<(), Refusal> {
+fn read_sense(state: &mut State, c: Choice) -> Attempt {
     c.bare()?;
-    state.collector.own.sense = state.read_mark_sense(COLLECTOR)?;
+    let (sense, origin) = state.read_mark_sense(COLLECTOR)?;
+    state.collector.own.sense = sense;
     state.collector.place = Row2Write;
-    Ok(())
+    Ok(Some(origin))
 }
 
 /// Row 2: "then write its opposite, which becomes the noted fM".
-fn flip_sense(state: &mut State, c: Choice) -> Result<(), Refusal> {
+fn flip_sense(state: &mut State, c: Choice) -> Attempt {
     c.bare()?;
     let opposite = !state.collector.own.sense;
     state.write(COLLECTOR, Store::MarkSense(opposite))?;
     state.collector.own.sense = opposite;
     state.collector.place = Row3Round(RoundStage::Fence);
-    Ok(())
+    Ok(None)
 }
 
 /// Rows 4, 5, 9 and 11: "write phase".
-fn write_phase(
-    state: &mut State,
-    c: Choice,
-    phase: Phase,
-    next: CollectorPlace,
-) -> Result<(), Refusal> {
+fn write_phase(state: &mut State, c: Choice, phase: Phase, next: CollectorPlace) -> Attempt {
     c.bare()?;
     state.write(COLLECTOR, Store::Phase(phase))?;
     state.collector.place = next;
-    Ok(())
+    Ok(None)
 }
 
 /// Row 5: "write fA := noted fM".
-fn write_allocation_sense(state: &mut State, c: Choice) -> Result<(), Refusal> {
+fn write_allocation_sense(state: &mut State, c: Choice) -> Attempt {
     c.bare()?;
     let sense = state.collector.own.sense;
     state.write(COLLECTOR, Store::AllocationSense(sense))?;
     state.collector.place = Row5Round(RoundStage::Fence);
-    Ok(())
+    Ok(None)
 }
 
 /// Rows 6 and 8: "take the system's list (one step, emptying it; it replaces
 /// the collector's own)". Empty: row 9. Not empty: row 7.
-fn take_list(state: &mut State, c: Choice) -> Result<(), Refusal> {
+fn take_list(state: &mut State, c: Choice) -> Attempt {
     c.bare()?;
     let taken = std::mem::take(&mut state.system.list);
     state.collector.own.list = taken;
@@ -175,19 +172,19 @@ fn take_list(state: &mut State, c: Choice) -> Result<(), Refusal> {
         0 => Row9WriteSweep,
         _ => Row7FirstRead,
     };
-    Ok(())
+    Ok(None)
 }
 
 /// Row 7: "x from its list, named at the first read". No field of it has been
 /// scanned then.
-fn first_read(state: &mut State, c: Choice) -> Result<(), Refusal> {
+fn first_read(state: &mut State, c: Choice) -> Attempt {
     let (x, f) = c.only_x_and_f()?;
     offered(state.collector.own.list & bit(x) != 0)?;
     scan(state, x, f, BOTH_FIELDS)
 }
 
 /// Row 7: a further read, of the x noted at the first.
-fn next_read(state: &mut State, c: Choice) -> Result<(), Refusal> {
+fn next_read(state: &mut State, c: Choice) -> Attempt {
     let f = c.only_f()?;
     let (x, unscanned) = (state.collector.scanned, state.collector.unscanned);
     scan(state, x, f, unscanned)
@@ -196,9 +193,9 @@ fn next_read(state: &mut State, c: Choice) -> Result<(), Refusal> {
 /// R-4: "at each field read in row 7 the choice's f names a field not yet
 /// scanned, and x keeps its use at the first. Refusal 4 is then given for a
 /// field already scanned." Null is not marked.
-fn scan(state: &mut State, x: u8, f: u8, unscanned: u8) -> Result<(), Refusal> {
+fn scan(state: &mut State, x: u8, f: u8, unscanned: u8) -> Attempt {
     offered(unscanned & field_bit(f) != 0)?;
-    let child = state.read_field(COLLECTOR, x, f)?;
+    let (child, origin) = state.read_field(COLLECTOR, x, f)?;
     state.collector.scanned = x;
     state.collector.unscanned = unscanned & !field_bit(f);
     state.collector.child = child;
@@ -206,18 +203,18 @@ fn scan(state: &mut State, x: u8, f: u8, unscanned: u8) -> Result<(), Refusal> {
         0 => after_field(state),
         _ => Row7Mark(MarkStage::Look),
     };
-    Ok(())
+    Ok(Some(origin))
 }
 
 /// Row 7: "mark it".
-fn mark_child(state: &mut State, c: Choice, stage: MarkStage) -> Result<(), Refusal> {
+fn mark_child(state: &mut State, c: Choice, stage: MarkStage) -> Attempt {
     c.bare()?;
-    let further = mark_step(state, COLLECTOR, state.collector.child, stage)?;
+    let (further, origin) = mark_step(state, COLLECTOR, state.collector.child, stage)?;
     if further.is_none() {
         state.collector.child = 0;
     }
     state.collector.place = further.map_or(after_field(state), Row7Mark);
-    Ok(())
+    Ok(origin)
 }
 
 /// A field is done: the next one is read, or x is dropped when none is left.
@@ -229,7 +226,7 @@ fn after_field(state: &State) -> CollectorPlace {
 }
 
 /// Row 7: "drop x (one step); until empty". Then row 8.
-fn drop_scanned(state: &mut State, c: Choice) -> Result<(), Refusal> {
+fn drop_scanned(state: &mut State, c: Choice) -> Attempt {
     c.bare()?;
     let collector = &mut state.collector;
     let scanned = std::mem::take(&mut collector.scanned);
@@ -238,22 +235,22 @@ fn drop_scanned(state: &mut State, c: Choice) -> Result<(), Refusal> {
         0 => Row8Round(RoundStage::Fence),
         _ => Row7FirstRead,
     };
-    Ok(())
+    Ok(None)
 }
 
 /// Row 9: "write phase Sweep". Every cell number is left to sweep then.
-fn start_sweep(state: &mut State, c: Choice) -> Result<(), Refusal> {
+fn start_sweep(state: &mut State, c: Choice) -> Attempt {
     write_phase(state, c, Phase::Sweep, Row10Look)?;
     state.collector.unswept = set_of(state.n);
-    Ok(())
+    Ok(None)
 }
 
 /// Row 10: "x naming one left: look at the mark; occupied and unequal to
 /// noted fM: free it, as a further step".
-fn sweep_look(state: &mut State, c: Choice) -> Result<(), Refusal> {
+fn sweep_look(state: &mut State, c: Choice) -> Attempt {
     let x = c.only_x()?;
     offered(state.collector.unswept & bit(x) != 0)?;
-    let mark = state.sweep_look(COLLECTOR, x)?;
+    let (mark, origin) = state.sweep_look(COLLECTOR, x)?;
     let sense = state.collector.own.sense;
     state.collector.unswept &= !bit(x);
     if mark.is_some_and(|mark| mark != sense) {
@@ -262,16 +259,16 @@ fn sweep_look(state: &mut State, c: Choice) -> Result<(), Refusal> {
     } else {
         state.collector.place = after_sweep(state);
     }
-    Ok(())
+    Ok(Some(origin))
 }
 
 /// Row 10: the further step.
-fn sweep_free(state: &mut State, c: Choice) -> Result<(), Refusal> {
+fn sweep_free(state: &mut State, c: Choice) -> Attempt {
     c.bare()?;
     state.free(COLLECTOR, state.collector.doomed)?;
     state.collector.doomed = 0;
     state.collector.place = after_sweep(state);
-    Ok(())
+    Ok(None)
 }
 
 /// Row 10 is "for each cell number"; row 11 follows when none is left.

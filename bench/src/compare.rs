@@ -1,6 +1,6 @@
 //! The two judges held against each other, log by log.
 
-use crate::coverage::STOPS;
+use crate::coverage::{READS, STOPS};
 use crate::log::{judge, line, Outcome};
 use crate::proved;
 use std::collections::BTreeMap;
@@ -21,9 +21,14 @@ impl fmt::Display for Difference {
         for byte in &self.log {
             write!(f, "{byte:02X}")?;
         }
-        write!(f, "\nindependent: {}", line(self.independent))?;
-        write!(f, "proved: {}", line(self.proved))
+        write!(f, "\nindependent: {}", four_numbers(self.independent))?;
+        write!(f, "\nproved: {}", four_numbers(self.proved))
     }
+}
+
+/// The line the program writes, and the fourth number.
+fn four_numbers(outcome: Outcome) -> String {
+    format!("{} read {}", line(outcome).trim_end(), outcome.read)
 }
 
 /// What a comparison has seen.
@@ -34,6 +39,8 @@ pub struct Comparison {
     pub steps: u64,
     /// How often the proved judge gave each stop.
     pub stops: BTreeMap<u8, u64>,
+    /// The same of each last read.
+    pub reads: BTreeMap<u8, u64>,
     pub differences: u64,
     pub first: Option<Difference>,
 }
@@ -52,6 +59,7 @@ impl Comparison {
         self.logs += 1;
         self.steps += u64::from(proved.steps);
         *self.stops.entry(proved.stop).or_default() += 1;
+        *self.reads.entry(proved.read).or_default() += 1;
         if independent == proved {
             return;
         }
@@ -65,9 +73,19 @@ impl Comparison {
 
     /// The stops that a log can reach and that none of these has.
     pub fn missing_stops(&self) -> Vec<u8> {
-        let reached = |stop: &u8| self.stops.contains_key(stop);
-        STOPS.into_iter().filter(|stop| !reached(stop)).collect()
+        missing(&STOPS, &self.stops)
     }
+
+    /// The same of last reads.
+    pub fn missing_reads(&self) -> Vec<u8> {
+        missing(&READS, &self.reads)
+    }
+}
+
+/// The numbers that were never given.
+fn missing(numbers: &[u8], given: &BTreeMap<u8, u64>) -> Vec<u8> {
+    let missing = numbers.iter().filter(|number| !given.contains_key(number));
+    missing.copied().collect()
 }
 
 impl fmt::Display for Comparison {
@@ -85,8 +103,11 @@ impl fmt::Display for Comparison {
         for (stop, times) in &self.stops {
             writeln!(f, "stop {stop}: {times}")?;
         }
+        for (read, times) in &self.reads {
+            writeln!(f, "read {read}: {times}")?;
+        }
         match &self.first {
-            Some(first) => write!(f, "first difference:\n{first}"),
+            Some(first) => writeln!(f, "first difference:\n{first}"),
             None => Ok(()),
         }
     }
@@ -100,6 +121,7 @@ mod tests {
         steps: 3,
         stop: 0,
         verdict: 0,
+        read: 255,
     };
 
     #[test]
@@ -110,7 +132,7 @@ mod tests {
         assert_eq!(comparison.first, None);
     }
 
-    /// Each of the three numbers counts, and the first difference is kept.
+    /// Each of the four numbers counts, and the first difference is kept.
     #[test]
     fn every_number_is_compared() {
         let mut comparison = Comparison::new();
@@ -121,27 +143,43 @@ mod tests {
                 verdict: 1,
                 ..SOUND
             },
+            Outcome { read: 0, ..SOUND },
         ];
-        for (log, other) in [[0xAB, 1], [2, 2], [3, 3]].iter().zip(others) {
+        for (log, other) in [[0xAB, 1], [2, 2], [3, 3], [4, 4]].iter().zip(others) {
             comparison.note(log, SOUND, other);
         }
-        assert_eq!(comparison.differences, 3);
+        assert_eq!(comparison.differences, 4);
         let told = comparison.to_string();
         assert!(told.ends_with(
             "first difference:\nlog, 2 bytes: AB01\n\
-             independent: steps 3 stop 0 verdict 0\n\
-             proved: steps 4 stop 0 verdict 0\n"
+             independent: steps 3 stop 0 verdict 0 read 255\n\
+             proved: steps 4 stop 0 verdict 0 read 255\n"
         ));
+    }
+
+    /// Each number is missing until an outcome gives it.
+    fn missing_until_given(
+        numbers: &[u8],
+        outcome: fn(u8) -> Outcome,
+        missing: fn(&Comparison) -> Vec<u8>,
+    ) {
+        let mut comparison = Comparison::new();
+        for &number in numbers {
+            assert!(missing(&comparison).contains(&number));
+            comparison.note(&[], outcome(number), outcome(number));
+        }
+        assert_eq!(missing(&comparison), Vec::<u8>::new());
     }
 
     #[test]
     fn a_stop_that_is_not_reached_is_missing() {
-        let mut comparison = Comparison::new();
-        for stop in STOPS {
-            assert!(comparison.missing_stops().contains(&stop));
-            let outcome = Outcome { stop, ..SOUND };
-            comparison.note(&[], outcome, outcome);
-        }
-        assert_eq!(comparison.missing_stops(), Vec::<u8>::new());
+        let outcome = |stop| Outcome { stop, ..SOUND };
+        missing_until_given(&STOPS, outcome, Comparison::missing_stops);
+    }
+
+    #[test]
+    fn a_last_read_that_is_not_given_is_missing() {
+        let outcome = |read| Outcome { read, ..SOUND };
+        missing_until_given(&READS, outcome, Comparison::missing_reads);
     }
 }

@@ -6,9 +6,9 @@ use crate::generate::Generator;
 use crate::header::{parse_header, Fault};
 use crate::heads::Head;
 use crate::log::{judge_observed, Outcome, LOG_LIMIT, RECORD_LENGTH};
-use crate::number::{STOP_FEW_LEFT, VERDICT_MALFORMED, VERDICT_SOUND};
+use crate::number::{READ_MEMORY, READ_NOTHING, STOP_FEW_LEFT, VERDICT_MALFORMED, VERDICT_SOUND};
 use crate::place::{CollectorPlace, MutatorPlace};
-use crate::state::{bit, State};
+use crate::state::{bit, State, BUFFER_ROOM};
 use crate::version::Version;
 use std::collections::BTreeMap;
 use std::fmt::{Debug, Write};
@@ -16,6 +16,9 @@ use std::fmt::{Debug, Write};
 /// The stops that a log can reach. Stop 1 and stop 11 are not among them: a
 /// state reached from an opening is well formed and holds no loose cell.
 pub(crate) const STOPS: [u8; 13] = [0, 2, 3, 4, 5, 6, 7, 8, 9, 10, 12, 13, 14];
+/// Where the last value read may have come from: memory, each place of the own
+/// buffer, nowhere.
+pub(crate) const READS: [u8; BUFFER_ROOM + 2] = [READ_MEMORY, 1, 2, 3, 4, 5, 6, 7, 8, READ_NOTHING];
 /// The longest header that is cut after its every byte: 7 + 3 * 2 + 4 bytes in
 /// version 1, 7 + 3 * 2 + 8 in version 2.
 const CUT_HEADER: usize = 21;
@@ -30,6 +33,8 @@ pub struct Coverage {
     pub steps: u64,
     stops: Counts<u8>,
     verdicts: Counts<u8>,
+    /// Where each log's last read saw its value.
+    reads: Counts<u8>,
     /// Places at which an own step was taken.
     mutator_places: Counts<MutatorPlace>,
     collector_places: Counts<CollectorPlace>,
@@ -85,6 +90,7 @@ impl Coverage {
         self.steps += u64::from(outcome.steps);
         count(&mut self.stops, outcome.stop);
         count(&mut self.verdicts, outcome.verdict);
+        count(&mut self.reads, outcome.read);
         count(&mut self.sizes, log.len());
         match end {
             Err(fault) => self.fault(fault, log),
@@ -102,7 +108,7 @@ impl Coverage {
 
     /// How often the event was seen.
     pub fn times(&self, event: Event) -> u64 {
-        self.events.get(&event).copied().unwrap_or(0)
+        times(&self.events, &event)
     }
 
     fn record(&mut self, record: Record, history: &mut History) {
@@ -178,6 +184,10 @@ fn count<K: Ord>(counts: &mut Counts<K>, key: K) {
     *counts.entry(key).or_default() += 1;
 }
 
+fn times<K: Ord>(counts: &Counts<K>, key: &K) -> u64 {
+    counts.get(key).copied().unwrap_or(0)
+}
+
 /// A part of the table: its name, and each line's name and count.
 type Section = (&'static str, Vec<(String, u64)>);
 
@@ -186,13 +196,12 @@ impl Coverage {
     fn sections(&self) -> Vec<Section> {
         let sizes = LOG_LIMIT - 1..=LOG_LIMIT + 1;
         let event_line = |&event: &Event| (event.name().to_string(), self.times(event));
-        let head_line = |head: &Head| {
-            let times = self.heads.get(head).copied().unwrap_or(0);
-            (head.name().to_string(), times)
-        };
+        let head_line = |head: &Head| (head.name().to_string(), times(&self.heads, head));
+        let read_line = |read: &u8| (read_name(*read), times(&self.reads, read));
         let after_version = |fault: &Fault| *fault > Fault::VersionHighByte;
         vec![
             ("Stops", lines(STOPS, &self.stops)),
+            ("Last read of a log", READS.iter().map(read_line).collect()),
             (
                 "Mutator places (own steps taken)",
                 lines(MutatorPlace::all(), &self.mutator_places),
@@ -253,11 +262,20 @@ impl Coverage {
     }
 }
 
+/// A log's fourth number in words.
+fn read_name(read: u8) -> String {
+    match read {
+        READ_MEMORY => "from memory".to_string(),
+        READ_NOTHING => "nothing read".to_string(),
+        own => format!("from its own buffer, place {}", own - 1),
+    }
+}
+
 /// The count of each key, named by its debug form.
 fn lines<K: Ord + Debug>(
     keys: impl IntoIterator<Item = K>,
     counts: &Counts<K>,
 ) -> Vec<(String, u64)> {
-    let line = |key: K| (format!("{key:?}"), counts.get(&key).copied().unwrap_or(0));
+    let line = |key: K| (format!("{key:?}"), times(counts, &key));
     keys.into_iter().map(line).collect()
 }

@@ -142,7 +142,7 @@ impl Record<'_> {
         let (cell, high) = match event {
             AllocatedBlack | AllocatedWhite => (x, HighAllocated),
             RootDropped => (x, HighDropped),
-            LoadOfReference => (self.before.read_field(self.p(), x, f).ok()?, HighLoaded),
+            LoadOfReference => (self.before.read_field(self.p(), x, f).ok()?.0, HighLoaded),
             MarkWon => (self.before.own(self.p()).greying, HighMarked),
             CommitField => (self.committed_cell()?, HighCommitted),
             Field0First | Field1First => (collector.scanned, HighScanned),
@@ -220,9 +220,8 @@ impl Record<'_> {
 
     /// A load or the first step of a store.
     fn first_read(&self, x: u8, f: u8, y: u8, events: &mut Vec<Event>) {
-        let value = match self.before.read_field(self.p(), x, f) {
-            Ok(value) => value,
-            Err(_) => return,
+        let Ok((value, _)) = self.before.read_field(self.p(), x, f) else {
+            return;
         };
         if value != self.before.cell(x).fields[usize::from(f)] {
             events.push(OwnStoreRead);

@@ -1,4 +1,4 @@
-//! An independent judge of document 01, with the changes of
+//! An independent judge of document 01, with the changes of
 //! document 02: the non-moving Schism collector with mutators on x86-TSO.
 //!
 //! It is the second opinion for a proved judge written elsewhere and shares
@@ -55,12 +55,13 @@ pub use header::{parse_header, Fault, Header};
 pub use log::{judge, judge_observed, line, Outcome, LOG_LIMIT, RECORD_LENGTH};
 pub use malformed::malformed;
 pub use marked::{marked_cases, wide_cases, MarkedCase};
+pub use memory::Origin;
 pub use place::{CollectorPlace, MarkStage, MutatorPlace, RoundStage};
 pub use random::Random;
 pub use state::{
     bit, field_bit, members, set_of, Cell, Collector, HandshakePhase, HandshakeType, Mutator,
     Phase, Process, State, Store, System, BOTH_FIELDS, BUFFER_ROOM, CELLS, MUTATORS,
 };
-pub use step::{apply, step};
+pub use step::{apply, attempt, step, Attempt};
 pub use verdict::verdict;
 pub use version::Version;

@@ -2,11 +2,12 @@
 
 use crate::choice::Choice;
 use crate::header::{parse_header, Fault};
+use crate::memory::Origin;
 use crate::number::{
-    STOP_ENDED, STOP_FEW_LEFT, STOP_NOT_ADMITTED, STOP_WRONG_CHECK, TAKEN, VERDICT_MALFORMED,
+    READ_NOTHING, STOP_ENDED, STOP_FEW_LEFT, STOP_NOT_ADMITTED, STOP_WRONG_CHECK, VERDICT_MALFORMED,
 };
 use crate::state::State;
-use crate::step::apply;
+use crate::step::{attempt, number, Attempt};
 use crate::verdict::verdict;
 
 /// "A log is at most 65,536 bytes, else stop 12."
@@ -22,14 +23,19 @@ pub struct Outcome {
     pub stop: u8,
     /// "the verdict is that of the state then, 4 on stop 12".
     pub verdict: u8,
+    /// R-6 of document 02: where the last value read by a record taken came
+    /// from, "0 for memory, the place plus 1 for the own buffer, 255 if nothing
+    /// was read".
+    pub read: u8,
 }
 
-/// The line the program writes.
+/// The line the program writes. R-6: "The program's line stays."
 pub fn line(outcome: Outcome) -> String {
     let Outcome {
         steps,
         stop,
         verdict,
+        ..
     } = outcome;
     format!("steps {steps} stop {stop} verdict {verdict}\n")
 }
@@ -76,7 +82,7 @@ impl Choice {
 /// Runs a log. A state reached from an opening is well formed, so no record
 /// is tested for that, and the one state is changed in place.
 pub fn judge(log: &[u8]) -> Outcome {
-    run(log, apply).0
+    run(log, attempt).0
 }
 
 /// Runs a log and shows each record that has a right check to the observer:
@@ -88,9 +94,9 @@ pub fn judge_observed(
 ) -> (Outcome, Result<State, Fault>) {
     run(log, |state, choice| {
         let before = state.clone();
-        let number = apply(state, choice);
-        observer(&before, choice, number, state);
-        number
+        let answer = attempt(state, choice);
+        observer(&before, choice, number(answer), state);
+        answer
     })
 }
 
@@ -103,45 +109,57 @@ fn open(log: &[u8]) -> Result<(State, &[u8]), Fault> {
 }
 
 /// Runs a log with the given way of taking a step.
-fn run(log: &[u8], take: impl FnMut(&mut State, Choice) -> u8) -> (Outcome, Result<State, Fault>) {
+fn run(
+    log: &[u8],
+    take: impl FnMut(&mut State, Choice) -> Attempt,
+) -> (Outcome, Result<State, Fault>) {
     match open(log) {
         Err(fault) => {
             let outcome = Outcome {
                 steps: 0,
                 stop: STOP_NOT_ADMITTED,
                 verdict: VERDICT_MALFORMED,
+                read: READ_NOTHING,
             };
             (outcome, Err(fault))
         }
         Ok((mut state, records)) => {
-            let (steps, stop) = run_records(&mut state, records, take);
+            let (taken, stop) = run_records(&mut state, records, take);
             let (verdict, _) = verdict(&state);
             let outcome = Outcome {
-                steps,
+                steps: taken.steps,
                 stop,
                 verdict,
+                read: taken.read.map_or(READ_NOTHING, Origin::number),
             };
             (outcome, Ok(state))
         }
     }
 }
 
-/// Takes the records in turn: how many were taken, and what stopped them.
+/// The records taken: how many, and where the last value they read came from.
+#[derive(Default)]
+struct Taken {
+    steps: u32,
+    read: Option<Origin>,
+}
+
+/// Takes the records in turn, and says what stopped them.
 fn run_records(
     state: &mut State,
     mut records: &[u8],
-    mut take: impl FnMut(&mut State, Choice) -> u8,
-) -> (u32, u8) {
-    let mut steps = 0;
+    mut take: impl FnMut(&mut State, Choice) -> Attempt,
+) -> (Taken, u8) {
+    let mut taken = Taken::default();
     while let Some((record, rest)) = records.split_first_chunk() {
         let Some(choice) = Choice::from_record(*record) else {
-            return (steps, STOP_WRONG_CHECK);
+            return (taken, STOP_WRONG_CHECK);
         };
-        let number = take(state, choice);
-        if number != TAKEN {
-            return (steps, number);
+        match take(state, choice) {
+            Err(refusal) => return (taken, refusal.number()),
+            Ok(read) => taken.read = read.or(taken.read),
         }
-        steps += 1;
+        taken.steps += 1;
         records = rest;
     }
     // "Fewer than 8 bytes left: stop 14. None left: stop 0."
@@ -150,5 +168,5 @@ fn run_records(
     } else {
         STOP_FEW_LEFT
     };
-    (steps, stop)
+    (taken, stop)
 }

@@ -27,7 +27,7 @@ pub struct MarkedCase {
 pub fn marked_cases() -> Vec<MarkedCase> {
     let mut cases = openings();
     cases.extend(stores());
-    cases.push(case("case-11.log", handshake(), (7, 0, 0)));
+    cases.push(case("case-11.log", handshake(), (7, 0, 0, 255)));
     cases.extend(headers());
     cases
 }
@@ -39,16 +39,16 @@ fn openings() -> Vec<MarkedCase> {
     let first = [&BASE[..], &A].concat();
     let short = first[..first.len() - 1].to_vec();
     vec![
-        case("case-01.log", first, (1, 0, 0)),
-        case("case-02.log", short, (0, 14, 0)),
-        case("case-03.log", with(allocate(1, 1)), (0, 10, 0)),
-        case("case-04.log", with(allocate(1, 3)), (0, 4, 0)),
-        case("case-05.log", with(allocate(2, 2)), (0, 2, 0)),
-        case("case-06.log", with(Choice::commit(1)), (0, 5, 0)),
+        case("case-01.log", first, (1, 0, 0, 255)),
+        case("case-02.log", short, (0, 14, 0, 255)),
+        case("case-03.log", with(allocate(1, 1)), (0, 10, 0, 255)),
+        case("case-04.log", with(allocate(1, 3)), (0, 4, 0, 255)),
+        case("case-05.log", with(allocate(2, 2)), (0, 2, 0, 255)),
+        case("case-06.log", with(Choice::commit(1)), (0, 5, 0, 255)),
         case(
             "case-07.log",
             with(Choice::operation(1, 5, 0, 0, 0)),
-            (0, 6, 0),
+            (0, 6, 0, 255),
         ),
     ]
 }
@@ -63,9 +63,9 @@ fn stores() -> Vec<MarkedCase> {
     let eighth = base(&[&store[..], &[fence]].concat());
     let ninth = base(&[&store[..], &[Choice::commit(1), fence]].concat());
     vec![
-        case("case-08.log", eighth, (4, 8, 0)),
-        case("case-09.log", ninth, (6, 0, 0)),
-        case("case-10.log", base(&null_store.repeat(9)), (17, 9, 0)),
+        case("case-08.log", eighth, (4, 8, 0, 0)),
+        case("case-09.log", ninth, (6, 0, 0, 0)),
+        case("case-10.log", base(&null_store.repeat(9)), (17, 9, 0, 8)),
     ]
 }
 
@@ -91,8 +91,8 @@ fn headers() -> Vec<MarkedCase> {
         log
     };
     vec![
-        case("case-12-version.log", changed(3, 3), (0, 12, 4)),
-        case("case-12-cells.log", changed(5, 33), (0, 12, 4)),
+        case("case-12-version.log", changed(3, 3), (0, 12, 4, 255)),
+        case("case-12-cells.log", changed(5, 33), (0, 12, 4, 255)),
     ]
 }
 
@@ -101,9 +101,17 @@ fn headers() -> Vec<MarkedCase> {
 pub fn wide_cases() -> Vec<MarkedCase> {
     let free_33 = |version| Header::new(version, vec![[0, 0, 0]; 33], vec![0]).bytes();
     vec![
-        case("sixty-four.log", sixty_four(), (7, 0, 0)),
-        case("cells-33-version-1.log", free_33(Version::One), (0, 12, 4)),
-        case("cells-33-version-2.log", free_33(Version::Two), (0, 0, 0)),
+        case("sixty-four.log", sixty_four(), (7, 0, 0, 0)),
+        case(
+            "cells-33-version-1.log",
+            free_33(Version::One),
+            (0, 12, 4, 255),
+        ),
+        case(
+            "cells-33-version-2.log",
+            free_33(Version::Two),
+            (0, 0, 0, 255),
+        ),
     ]
 }
 
@@ -137,11 +145,13 @@ fn base(choices: &[Choice]) -> Vec<u8> {
     BASE.into_iter().chain(records).collect()
 }
 
-fn case(file: &'static str, log: Vec<u8>, (steps, stop, verdict): (u32, u8, u8)) -> MarkedCase {
+fn case(file: &'static str, log: Vec<u8>, numbers: (u32, u8, u8, u8)) -> MarkedCase {
+    let (steps, stop, verdict, read) = numbers;
     let expected = Outcome {
         steps,
         stop,
         verdict,
+        read,
     };
     MarkedCase {
         file,

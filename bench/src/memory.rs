@@ -1,8 +1,29 @@
 //! "Memory steps (x86-TSO)". Each function makes its checks in number order
 //! and changes nothing when it refuses.
 
-use crate::number::Refusal;
+use crate::number::{Refusal, READ_MEMORY};
 use crate::state::{bit, Cell, Phase, State, Store, BUFFER_ROOM};
+
+/// R-6 of document 02: whether a read "saw the reader's own pending store or
+/// memory, with the place in the buffer, oldest counted as 0".
+#[derive(Clone, Copy, Debug, PartialEq, Eq)]
+pub enum Origin {
+    Memory,
+    Own(u8),
+}
+
+impl Origin {
+    /// "0 for memory, the place plus 1 for the own buffer".
+    pub fn number(self) -> u8 {
+        match self {
+            Origin::Memory => READ_MEMORY,
+            Origin::Own(place) => place + 1,
+        }
+    }
+}
+
+/// The value that a read gives and where it came from, or why it is refused.
+type Read<T> = Result<(T, Origin), Refusal>;
 
 impl State {
     /// "A process is blocked while another holds the lock."
@@ -31,63 +52,65 @@ impl State {
         Ok(())
     }
 
-    /// "A read gives the newest matching store of the reader's own buffer",
-    /// if there is one.
-    fn newest<T>(&self, p: u8, matching: impl Fn(&Store) -> Option<T>) -> Option<T> {
-        self.own(p).buffer.iter().rev().find_map(matching)
+    /// "A read gives the newest matching store of the reader's own buffer,
+    /// else memory", here with where that was. Every read is one of these.
+    fn seen<T>(&self, p: u8, memory: T, matching: impl Fn(&Store) -> Option<T>) -> (T, Origin) {
+        let mut newest_first = self.own(p).buffer.iter().enumerate().rev();
+        let own = newest_first
+            .find_map(|(place, store)| Some((matching(store)?, Origin::Own(place as u8))));
+        own.unwrap_or((memory, Origin::Memory))
     }
 
     /// The mark of r as process p sees it.
-    fn seen_mark(&self, p: u8, r: u8) -> bool {
-        self.newest(p, |store| match *store {
+    fn seen_mark(&self, p: u8, r: u8) -> (bool, Origin) {
+        self.seen(p, self.cell(r).mark, |store| match *store {
             Store::Mark { cell, mark } if cell == r => Some(mark),
             _ => None,
         })
-        .unwrap_or(self.cell(r).mark)
     }
 
     /// A look at r's mark.
-    pub fn look(&self, p: u8, r: u8) -> Result<bool, Refusal> {
+    pub fn look(&self, p: u8, r: u8) -> Read<bool> {
         self.unblocked(p)?;
         self.occupied(r)?;
         Ok(self.seen_mark(p, r))
     }
 
-    /// The sweep's look, which refusal 11 excepts: `None` for a free cell.
-    pub fn sweep_look(&self, p: u8, r: u8) -> Result<Option<bool>, Refusal> {
+    /// The sweep's look, which refusal 11 excepts: `None` for a free cell. It
+    /// reads there too, where a mark of the cell would be pending.
+    pub fn sweep_look(&self, p: u8, r: u8) -> Read<Option<bool>> {
         self.unblocked(p)?;
-        Ok(self.cell(r).occupied.then(|| self.seen_mark(p, r)))
+        let (mark, origin) = self.seen_mark(p, r);
+        Ok((self.cell(r).occupied.then_some(mark), origin))
     }
 
     /// A read of field f of r.
-    pub fn read_field(&self, p: u8, r: u8, f: u8) -> Result<u8, Refusal> {
+    pub fn read_field(&self, p: u8, r: u8, f: u8) -> Read<u8> {
         self.unblocked(p)?;
         self.occupied(r)?;
-        let pending = self.newest(p, |store| match *store {
+        let memory = self.cell(r).fields[usize::from(f)];
+        Ok(self.seen(p, memory, |store| match *store {
             Store::Field { cell, field, value } if cell == r && field == f => Some(value),
             _ => None,
-        });
-        Ok(pending.unwrap_or(self.cell(r).fields[usize::from(f)]))
+        }))
     }
 
     /// A read of fM.
-    pub fn read_mark_sense(&self, p: u8) -> Result<bool, Refusal> {
+    pub fn read_mark_sense(&self, p: u8) -> Read<bool> {
         self.unblocked(p)?;
-        let pending = self.newest(p, |store| match *store {
+        Ok(self.seen(p, self.mark_sense, |store| match *store {
             Store::MarkSense(sense) => Some(sense),
             _ => None,
-        });
-        Ok(pending.unwrap_or(self.mark_sense))
+        }))
     }
 
     /// A read of the phase.
-    pub fn read_phase(&self, p: u8) -> Result<Phase, Refusal> {
+    pub fn read_phase(&self, p: u8) -> Read<Phase> {
         self.unblocked(p)?;
-        let pending = self.newest(p, |store| match *store {
+        Ok(self.seen(p, self.phase, |store| match *store {
             Store::Phase(phase) => Some(phase),
             _ => None,
-        });
-        Ok(pending.unwrap_or(self.phase))
+        }))
     }
 
     /// "A write appends." It is never blocked.

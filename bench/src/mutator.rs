@@ -5,10 +5,11 @@ use crate::marking::mark_step;
 use crate::number::Refusal;
 use crate::place::{MarkStage, MutatorPlace};
 use crate::state::{bit, HandshakeType, Mutator, State, Store};
+use crate::step::Attempt;
 use MutatorPlace::*;
 
 /// The own step of the mutator that the choice names.
-pub fn own_step(state: &mut State, c: Choice) -> Result<(), Refusal> {
+pub fn own_step(state: &mut State, c: Choice) -> Attempt {
     match state.mutator(c.process).place {
         Top => operation(state, c),
         StoreMarkOld(stage) => mark_old(state, c, stage),
@@ -26,7 +27,7 @@ pub fn own_step(state: &mut State, c: Choice) -> Result<(), Refusal> {
 }
 
 /// "At top the choice names an operation".
-fn operation(state: &mut State, c: Choice) -> Result<(), Refusal> {
+fn operation(state: &mut State, c: Choice) -> Attempt {
     match c.operation {
         0 => allocate(state, c),
         1 => drop_root(state, c),
@@ -34,7 +35,8 @@ fn operation(state: &mut State, c: Choice) -> Result<(), Refusal> {
         3 => store(state, c),
         4 => {
             offered((c.x, c.f, c.y) == (0, 0, 0))?;
-            state.fence(c.process)
+            state.fence(c.process)?;
+            Ok(None)
         }
         5 => answer(state, c),
         _ => Err(Refusal::NotOffered),
@@ -42,33 +44,34 @@ fn operation(state: &mut State, c: Choice) -> Result<(), Refusal> {
 }
 
 /// "0 allocate free cell x".
-fn allocate(state: &mut State, c: Choice) -> Result<(), Refusal> {
+fn allocate(state: &mut State, c: Choice) -> Attempt {
     offered((1..=state.n).contains(&c.x) && (c.f, c.y) == (0, 0))?;
-    state.allocate(c.process, c.x)
+    state.allocate(c.process, c.x)?;
+    Ok(None)
 }
 
 /// "1 drop root x".
-fn drop_root(state: &mut State, c: Choice) -> Result<(), Refusal> {
+fn drop_root(state: &mut State, c: Choice) -> Attempt {
     let mutator = state.mutator_mut(c.process);
     offered(is_root(mutator, c.x) && (c.f, c.y) == (0, 0))?;
     mutator.roots &= !bit(c.x);
-    Ok(())
+    Ok(None)
 }
 
 /// "2 read field f of root x, a non-null value becomes a root".
-fn load(state: &mut State, c: Choice) -> Result<(), Refusal> {
+fn load(state: &mut State, c: Choice) -> Attempt {
     offered(is_root(state.mutator(c.process), c.x) && c.f <= 1 && c.y == 0)?;
-    let value = state.read_field(c.process, c.x, c.f)?;
+    let (value, origin) = state.read_field(c.process, c.x, c.f)?;
     state.mutator_mut(c.process).roots |= bit(value);
-    Ok(())
+    Ok(Some(origin))
 }
 
 /// "3 store y (a root or 0) in field f of root x": "the first step reads the
 /// old value".
-fn store(state: &mut State, c: Choice) -> Result<(), Refusal> {
+fn store(state: &mut State, c: Choice) -> Attempt {
     let mutator = state.mutator(c.process);
     offered(is_root(mutator, c.x) && c.f <= 1 && (c.y == 0 || is_root(mutator, c.y)))?;
-    let old = state.read_field(c.process, c.x, c.f)?;
+    let (old, origin) = state.read_field(c.process, c.x, c.f)?;
     let mutator = state.mutator_mut(c.process);
     mutator.honorary = old;
     (mutator.target, mutator.field, mutator.value) = (c.x, c.f, c.y);
@@ -76,11 +79,11 @@ fn store(state: &mut State, c: Choice) -> Result<(), Refusal> {
         0 => after_old(mutator),
         _ => StoreMarkOld(MarkStage::Look),
     };
-    Ok(())
+    Ok(Some(origin))
 }
 
 /// "5 answer a raised handshake": "read the type".
-fn answer(state: &mut State, c: Choice) -> Result<(), Refusal> {
+fn answer(state: &mut State, c: Choice) -> Attempt {
     offered((c.x, c.f, c.y) == (0, 0, 0))?;
     let fence = match state.system.kind {
         HandshakeType::NoOp => NoOpFence,
@@ -92,7 +95,7 @@ fn answer(state: &mut State, c: Choice) -> Result<(), Refusal> {
         return Err(Refusal::FlagDown);
     }
     mutator.place = fence;
-    Ok(())
+    Ok(None)
 }
 
 fn is_root(mutator: &Mutator, x: u8) -> bool {
@@ -100,13 +103,13 @@ fn is_root(mutator: &Mutator, x: u8) -> bool {
 }
 
 /// "then mark the old".
-fn mark_old(state: &mut State, c: Choice, stage: MarkStage) -> Result<(), Refusal> {
+fn mark_old(state: &mut State, c: Choice, stage: MarkStage) -> Attempt {
     c.bare()?;
     let old = state.mutator(c.process).honorary;
-    let further = mark_step(state, c.process, old, stage)?;
+    let (further, origin) = mark_step(state, c.process, old, stage)?;
     let mutator = state.mutator_mut(c.process);
     mutator.place = further.map_or_else(|| after_old(mutator), StoreMarkOld);
-    Ok(())
+    Ok(origin)
 }
 
 /// Where a store goes once its old value is marked or null: "mark y", and
@@ -119,16 +122,16 @@ fn after_old(mutator: &Mutator) -> MutatorPlace {
 }
 
 /// "mark y".
-fn mark_new(state: &mut State, c: Choice, stage: MarkStage) -> Result<(), Refusal> {
+fn mark_new(state: &mut State, c: Choice, stage: MarkStage) -> Attempt {
     c.bare()?;
     let y = state.mutator(c.process).value;
-    let further = mark_step(state, c.process, y, stage)?;
+    let (further, origin) = mark_step(state, c.process, y, stage)?;
     state.mutator_mut(c.process).place = further.map_or(StoreWrite, StoreMarkNew);
-    Ok(())
+    Ok(origin)
 }
 
 /// "write the field, clearing the honorary root".
-fn write_field(state: &mut State, c: Choice) -> Result<(), Refusal> {
+fn write_field(state: &mut State, c: Choice) -> Attempt {
     c.bare()?;
     let mutator = state.mutator(c.process);
     let pending = Store::Field {
@@ -141,25 +144,25 @@ fn write_field(state: &mut State, c: Choice) -> Result<(), Refusal> {
     mutator.honorary = 0;
     (mutator.target, mutator.field, mutator.value) = (0, 0, 0);
     mutator.place = Top;
-    Ok(())
+    Ok(None)
 }
 
 /// The fence of an answer.
-fn fence(state: &mut State, c: Choice, next: MutatorPlace) -> Result<(), Refusal> {
+fn fence(state: &mut State, c: Choice, next: MutatorPlace) -> Attempt {
     c.bare()?;
     state.fence(c.process)?;
     state.mutator_mut(c.process).place = next;
-    Ok(())
+    Ok(None)
 }
 
 /// The fence of a roots answer. All roots are left to mark then.
-fn roots_fence(state: &mut State, c: Choice) -> Result<(), Refusal> {
+fn roots_fence(state: &mut State, c: Choice) -> Attempt {
     c.bare()?;
     state.fence(c.process)?;
     let mutator = state.mutator_mut(c.process);
     mutator.unmarked = mutator.roots;
     mutator.place = after_root(mutator);
-    Ok(())
+    Ok(None)
 }
 
 /// "for roots, mark each root": the next one, if any is left.
@@ -171,34 +174,34 @@ fn after_root(mutator: &Mutator) -> MutatorPlace {
 }
 
 /// "the choice x naming which remaining one at its first look".
-fn look_at_root(state: &mut State, c: Choice) -> Result<(), Refusal> {
+fn look_at_root(state: &mut State, c: Choice) -> Attempt {
     let x = c.only_x()?;
     offered(state.mutator(c.process).unmarked & bit(x) != 0)?;
-    mark_step(state, c.process, x, MarkStage::Look)?;
+    let (_, origin) = mark_step(state, c.process, x, MarkStage::Look)?;
     let mutator = state.mutator_mut(c.process);
     mutator.unmarked &= !bit(x);
     mutator.root = x;
     mutator.place = RootsMark(MarkStage::ReadSense);
-    Ok(())
+    Ok(origin)
 }
 
 /// The further steps of a root's mark.
-fn mark_root(state: &mut State, c: Choice, stage: MarkStage) -> Result<(), Refusal> {
+fn mark_root(state: &mut State, c: Choice, stage: MarkStage) -> Attempt {
     c.bare()?;
     let root = state.mutator(c.process).root;
-    let further = mark_step(state, c.process, root, stage)?;
+    let (further, origin) = mark_step(state, c.process, root, stage)?;
     let mutator = state.mutator_mut(c.process);
     if further.is_none() {
         mutator.root = 0;
     }
     mutator.place = further.map_or_else(|| after_root(mutator), RootsMark);
-    Ok(())
+    Ok(origin)
 }
 
 /// "then one step lowers the flag, sets in step, and, for roots or work,
 /// moves its list to the system's". It "advances the mutator's handshake
 /// phase for no-op and roots".
-fn finish(state: &mut State, c: Choice, kind: HandshakeType) -> Result<(), Refusal> {
+fn finish(state: &mut State, c: Choice, kind: HandshakeType) -> Attempt {
     c.bare()?;
     let mutator = state.mutator_mut(c.process);
     mutator.flag = false;
@@ -211,5 +214,5 @@ fn finish(state: &mut State, c: Choice, kind: HandshakeType) -> Result<(), Refus
         let moved = std::mem::take(&mut mutator.own.list);
         state.system.list |= moved;
     }
-    Ok(())
+    Ok(None)
 }

@@ -1,4 +1,5 @@
-//! The numbers of document 01: refusals, stops and verdicts.
+//! The numbers of document 01: refusals, stops and verdicts; and R-6's of
+//! document 02: where the last value read came from.
 
 /// A step that is taken.
 pub const TAKEN: u8 = 0;
@@ -68,3 +69,9 @@ pub const VERDICT_BLACK_TO_WHITE: u8 = 2;
 pub const VERDICT_HANDSHAKE: u8 = 3;
 /// Verdict 4: malformed state.
 pub const VERDICT_MALFORMED: u8 = 4;
+
+/// R-6: "0 for memory". From 1 to 8 it is "the place plus 1 for the own
+/// buffer".
+pub const READ_MEMORY: u8 = 0;
+/// R-6: "255 if nothing was read".
+pub const READ_NOTHING: u8 = 255;

@@ -1,7 +1,7 @@
 //! The proved judge, through the static library that `rt staticlib claysaucer`
 //! makes. Nothing of it is used by the independent judge.
 
-use crate::log::{judge as rust_judge, Outcome};
+use crate::log::{judge as rust_judge, line, Outcome};
 use crate::timing::Judge;
 use crate::version::Version;
 
@@ -15,6 +15,15 @@ pub fn judges(version: Version) -> Vec<Named> {
     judges.extend(earlier_judge_of(version));
     judges.push(("Rust", rust_judge));
     judges
+}
+
+/// Fails where one of these judges writes another line than the Rust judge. An
+/// earlier one may be of before R-6 and know no fourth number.
+pub fn assert_agreed(judges: &[Named], log: &[u8]) {
+    let expected = line(rust_judge(log));
+    for (name, judge) in judges {
+        assert_eq!(line(judge(log)), expected, "{name} agrees");
+    }
 }
 
 /// The earlier judge, unless it refuses the least header of the version.
@@ -63,15 +72,16 @@ fn call(judge: Exported, log: &[u8]) -> Outcome {
     unpacked(packed)
 }
 
-/// Bits 0 to 7 are the verdict, 8 to 15 the stop, 16 to 31 zero, 32 to 63 the
-/// steps.
+/// Bits 0 to 7 are the verdict, 8 to 15 the stop, 16 to 23 the last read, 24 to
+/// 31 zero, 32 to 63 the steps.
 fn unpacked(packed: u64) -> Outcome {
-    let [verdict, stop, zero, zero_too, steps @ ..] = packed.to_le_bytes();
-    assert_eq!((zero, zero_too), (0, 0), "bits 16 to 31 of {packed:#018X}");
+    let [verdict, stop, read, zero, steps @ ..] = packed.to_le_bytes();
+    assert_eq!(zero, 0, "bits 24 to 31 of {packed:#018X}");
     Outcome {
         steps: u32::from_le_bytes(steps),
         stop,
         verdict,
+        read,
     }
 }
 
@@ -81,16 +91,34 @@ mod tests {
 
     #[test]
     fn each_number_has_its_bits() {
-        let outcome = unpacked(0x0001_0203_0000_0E04);
-        assert_eq!(
-            (outcome.steps, outcome.stop, outcome.verdict),
-            (0x0001_0203, 14, 4)
-        );
+        let expected = Outcome {
+            steps: 0x0001_0203,
+            stop: 14,
+            verdict: 4,
+            read: 8,
+        };
+        assert_eq!(unpacked(0x0001_0203_0008_0E04), expected);
+    }
+
+    /// Each byte alone, all its bits set.
+    #[test]
+    fn no_number_has_bits_of_another() {
+        let numbers = |packed| {
+            let own = unpacked(packed);
+            (own.steps, own.stop, own.verdict, own.read)
+        };
+        assert_eq!(numbers(0), (0, 0, 0, 0));
+        assert_eq!(numbers(0xFF), (0, 0, 255, 0));
+        assert_eq!(numbers(0xFF00), (0, 255, 0, 0));
+        assert_eq!(numbers(0xFF_0000), (0, 0, 0, 255));
+        assert_eq!(numbers(0xFFFF_FFFF_0000_0000), (u32::MAX, 0, 0, 0));
     }
 
     #[test]
-    #[should_panic(expected = "bits 16 to 31")]
-    fn bits_16_to_31_are_held_to_zero() {
-        unpacked(0x0000_0001_8000_0000);
+    fn bits_24_to_31_are_held_to_zero() {
+        for bit in 24..32 {
+            let refused = std::panic::catch_unwind(|| unpacked(1 << bit));
+            assert!(refused.is_err(), "bit {bit}");
+        }
     }
 }

@@ -2,6 +2,7 @@
 
 use crate::choice::Choice;
 use crate::malformed::malformed;
+use crate::memory::Origin;
 use crate::number::{Refusal, TAKEN};
 use crate::state::State;
 use crate::{collector, mutator};
@@ -20,14 +21,21 @@ pub fn step(state: &State, choice: Choice) -> (u8, State) {
 /// The same in place, for a state known to be well formed. A refused choice
 /// leaves the state as it was.
 pub fn apply(state: &mut State, choice: Choice) -> u8 {
-    match attempt(state, choice) {
-        Ok(()) => TAKEN,
-        Err(refusal) => refusal.number(),
-    }
+    number(attempt(state, choice))
 }
 
-/// "Checks run in number order": 2, 3, then those of the step itself.
-fn attempt(state: &mut State, choice: Choice) -> Result<(), Refusal> {
+/// 0 if taken, else the refusal's number.
+pub(crate) fn number(attempt: Attempt) -> u8 {
+    attempt.map_or_else(Refusal::number, |_| TAKEN)
+}
+
+/// Of a choice that is taken, where the value it read came from, `None` if it
+/// reads nothing; else why it is refused.
+pub type Attempt = Result<Option<Origin>, Refusal>;
+
+/// The same as `apply`, also telling of the read. "Checks run in number order":
+/// 2, 3, then those of the step itself.
+pub fn attempt(state: &mut State, choice: Choice) -> Attempt {
     if choice.process > state.m {
         return Err(Refusal::NoProcess);
     }
@@ -36,7 +44,8 @@ fn attempt(state: &mut State, choice: Choice) -> Result<(), Refusal> {
         (0, _) => mutator::own_step(state, choice),
         (1, p) => {
             choice.bare()?;
-            state.commit(p)
+            state.commit(p)?;
+            Ok(None)
         }
         _ => Err(Refusal::NoKind),
     }

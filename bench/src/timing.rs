@@ -4,7 +4,7 @@ use crate::log::Outcome;
 use std::hint::black_box;
 use std::time::{Duration, Instant};
 
-/// A judge: from a log's bytes to the three numbers.
+/// A judge: from a log's bytes to the four numbers.
 pub type Judge = fn(&[u8]) -> Outcome;
 
 /// The times of one judge, each of so many calls.

@@ -2,7 +2,9 @@
 
 mod common;
 
-use claysaucer_bench::number::{MALFORMED, STOP_NOT_ADMITTED, TAKEN, VERDICT_MALFORMED};
+use claysaucer_bench::number::{
+    MALFORMED, READ_NOTHING, STOP_NOT_ADMITTED, TAKEN, VERDICT_MALFORMED,
+};
 use claysaucer_bench::{
     apply, judge, judge_observed, malformed, parse_header, step, verdict, Choice, Coverage, Fault,
     Generator, MarkStage, Outcome, Random, State,
@@ -191,12 +193,13 @@ fn truncation_after_every_byte() {
     }
 }
 
-/// "stop 12": no steps, verdict 4.
+/// "stop 12": no steps, verdict 4, nothing read.
 fn header_outcome() -> Outcome {
     Outcome {
         steps: 0,
         stop: STOP_NOT_ADMITTED,
         verdict: VERDICT_MALFORMED,
+        read: READ_NOTHING,
     }
 }
 

@@ -10,6 +10,28 @@ fn examples() -> PathBuf {
     Path::new(env!("CARGO_MANIFEST_DIR")).join("../examples")
 }
 
+/// The text of a file beside the logs.
+fn table(file: &str) -> String {
+    fs::read_to_string(examples().join(file)).expect(file)
+}
+
+/// Each line of expected.txt: the file it tells of, its log and its outcome.
+fn told_logs() -> Vec<(String, Vec<u8>, String)> {
+    let told = |line: &str| {
+        let (file, outcome) = line.split_once(": ").expect("FILE: line");
+        let log = fs::read(examples().join(file)).expect(file);
+        (file.to_string(), log, outcome.to_string())
+    };
+    table("expected.txt").lines().map(told).collect()
+}
+
+/// What reads.txt must have: the logs of expected.txt, each with its fourth
+/// number.
+fn reads() -> String {
+    let read = |(file, log, _): (_, Vec<u8>, _)| format!("{file} {}\n", judge(&log).read);
+    told_logs().into_iter().map(read).collect()
+}
+
 fn log_of(file: &str) -> Vec<u8> {
     let case = marked_cases().into_iter().find(|case| case.file == file);
     case.expect("a marked case").log
@@ -104,27 +126,39 @@ fn the_example_files_are_the_marked_logs() {
         let log = fs::read(examples().join(case.file)).expect(case.file);
         assert_eq!(log, case.log, "{}", case.file);
     }
-    let expected = fs::read_to_string(examples().join("expected.txt")).expect("expected.txt");
+    let expected = table("expected.txt");
     assert!(expected.starts_with(&expected_lines(&marked_cases())));
     assert!(expected.ends_with(&expected_lines(&wide_cases())));
 }
 
 #[test]
 fn expected_txt_agrees_with_the_judge() {
-    let expected = fs::read_to_string(examples().join("expected.txt")).expect("expected.txt");
+    let told = told_logs();
     assert_eq!(
-        expected.lines().count(),
+        told.len(),
         19,
         "thirteen marked logs, three more, and three of R-3"
     );
-    for told in expected.lines() {
-        let (file, outcome) = told.split_once(": ").expect("FILE: line");
-        let log = fs::read(examples().join(file)).expect(file);
+    for (file, log, outcome) in told {
         assert_eq!(line(judge(&log)), format!("{outcome}\n"), "{file}");
     }
 }
 
-/// Writes the marked logs anew, and those of R-3:
+#[test]
+fn reads_txt_agrees_with_the_judge() {
+    assert_eq!(table("reads.txt"), reads());
+}
+
+/// No log of the folder is left out of the two tables.
+#[test]
+fn every_example_is_told() {
+    let files = fs::read_dir(examples()).expect("examples");
+    let names = files.map(|file| file.expect("a file").path());
+    let logs = names.filter(|path| path.extension().is_some_and(|own| own == "log"));
+    assert_eq!(logs.count(), told_logs().len());
+}
+
+/// Writes the marked logs anew, those of R-3, and reads.txt:
 /// `cargo test --release --test marked -- --ignored`.
 #[test]
 #[ignore = "writes files"]
@@ -132,4 +166,5 @@ fn write_the_marked_logs() {
     for case in marked_cases().into_iter().chain(wide_cases()) {
         fs::write(examples().join(case.file), case.log).expect(case.file);
     }
+    fs::write(examples().join("reads.txt"), reads()).expect("reads.txt");
 }

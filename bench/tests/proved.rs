@@ -1,7 +1,8 @@
-//! The proved judge and the independent one give the same three numbers.
+//! The proved judge and the independent one give the same four numbers.
 
 use claysaucer_bench::{
     marked_cases, proved, wide_cases, Comparison, Damage, Fault, Generator, Version, LOG_LIMIT,
+    RECORD_LENGTH,
 };
 
 /// The comparison of the logs that `add` makes of a seed, about half of them of
@@ -13,9 +14,10 @@ fn compared(seed: u64, add: impl FnOnce(&mut Generator, &mut Comparison)) -> Com
     comparison
 }
 
-/// Every stop that a log can reach is reached.
-fn assert_every_stop(comparison: &Comparison) {
-    assert_eq!(comparison.missing_stops(), Vec::<u8>::new(), "{comparison}");
+/// Every stop and every last read that a log can give is given.
+fn assert_every_number(comparison: &Comparison) {
+    let missing = (comparison.missing_stops(), comparison.missing_reads());
+    assert_eq!(missing, (vec![], vec![]), "{comparison}");
 }
 
 /// These stops and no others are reached.
@@ -40,7 +42,7 @@ fn they_agree_on_generated_logs() {
             comparison.add(&generator.next_log());
         }
     });
-    assert_every_stop(&comparison);
+    assert_every_number(&comparison);
 }
 
 /// Each damage done to logs of the mix, after they were made.
@@ -53,7 +55,7 @@ fn they_agree_on_damaged_logs() {
             }
         }
     });
-    assert_every_stop(&comparison);
+    assert_every_number(&comparison);
 }
 
 /// Each clause of the header broken alone.
@@ -110,6 +112,26 @@ fn they_agree_on_lengths() {
         comparison.add(&vec![0; 1_000_000]);
     });
     assert_stops(&comparison, &[0, 12, 14]);
+}
+
+/// The beginnings of some logs, one record longer each time: each record is the
+/// last one once, so that what it has read is compared.
+#[test]
+fn they_agree_after_every_record() {
+    const RECORDS: usize = 800;
+    let comparison = compared(27, |generator, comparison| {
+        for version in Version::ALL {
+            for _ in 0..40 {
+                let log = generator.log_over(version, 4, 3, RECORDS);
+                let header = log.len() - RECORDS * RECORD_LENGTH;
+                for length in (header..=log.len()).step_by(RECORD_LENGTH) {
+                    comparison.add(&log[..length]);
+                }
+            }
+        }
+    });
+    assert_stops(&comparison, &[0]);
+    assert_eq!(comparison.missing_reads(), vec![], "{comparison}");
 }
 
 /// Long logs of both versions and of every number of mutators, all of whose

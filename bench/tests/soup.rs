@@ -2,6 +2,7 @@
 
 mod common;
 
+use claysaucer_bench::number::READ_MEMORY;
 use claysaucer_bench::{judge, Choice, Outcome, Random};
 use common::random_choice;
 
@@ -63,6 +64,7 @@ fn change_each_byte(header: &[u8]) {
         steps: 3,
         stop: 0,
         verdict: 0,
+        read: READ_MEMORY,
     };
     assert_eq!(whole, expected);
     for at in 0..log.len() {

@@ -39,6 +39,7 @@ fn hold(judge: fn(&[u8]) -> Outcome) {
             steps,
             stop,
             verdict,
+            ..
         } = judge(log);
         let sum = checksum(log);
         let told = format!("{i} {sum:016X} {steps} {stop} {verdict}");

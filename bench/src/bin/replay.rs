@@ -1,9 +1,9 @@
 //! Times the two judges on the same logs, in turns: the whole call each time,
-//! from the log's bytes to the three numbers.
+//! from the log's bytes to the four numbers.
 //!
 //! `replay [SEED] [REPETITIONS]`
 
-use claysaucer_bench::proved::{judges, Named};
+use claysaucer_bench::proved::{assert_agreed, judges, Named};
 use claysaucer_bench::timing::{in_turns, micros};
 use claysaucer_bench::{judge, Coverage, Event, Generator, Version, RECORD_LENGTH};
 use std::process::ExitCode;
@@ -90,11 +90,9 @@ fn replay(generator: &mut Generator, size: Size, repetitions: usize) {
     let judges = judges(version);
     let longest = RECORDS[RECORDS.len() - 1];
     let (log, events) = busy_log(generator, size, longest);
-    let outcome = judge(&log);
-    assert_eq!(outcome.steps as usize, longest, "every record is taken");
-    for (name, other) in &judges {
-        assert_eq!(outcome, other(&log), "{name} agrees");
-    }
+    let steps = judge(&log).steps;
+    assert_eq!(steps as usize, longest, "every record is taken");
+    assert_agreed(&judges, &log);
     let version = version.number();
     println!("\nN = {n}, M = {m}, version {version}. In {longest} records: {events}.\n");
     head(&judges);

@@ -5,9 +5,9 @@
 //!
 //! `verdicts [REPETITIONS]`
 
-use claysaucer_bench::proved::{judges, Named};
+use claysaucer_bench::proved::{assert_agreed, judges, Named};
 use claysaucer_bench::timing::{in_turns, micros};
-use claysaucer_bench::{bit, judge, set_of, Header, Version, CELLS};
+use claysaucer_bench::{bit, set_of, Header, Version, CELLS};
 use std::process::ExitCode;
 
 const REPETITIONS: usize = 200;
@@ -66,9 +66,7 @@ fn columns() -> Vec<Named> {
 fn row(shape: &Shape, n: u8, repetitions: usize) {
     let log = shape.log(n);
     let judges = judges(Version::with_room(n));
-    for (name, other) in &judges {
-        assert_eq!(other(&log), judge(&log), "{name} agrees");
-    }
+    assert_agreed(&judges, &log);
     let times = in_turns(&judges, &log, repetitions, CALLS);
     let median = |(name, _): &Named| {
         let at = judges.iter().position(|(own, _)| own == name);
