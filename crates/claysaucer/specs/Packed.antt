@@ -29,8 +29,8 @@ verdictOf n = n % of8Bits
 abbrev pub stopOf : ℕ → ℕ
 stopOf n = n / of8Bits % of8Bits
 
-abbrev pub readOf : ℕ → ℕ
-readOf n = n / of16Bits % of8Bits
+abbrev pub lastReadOf : ℕ → ℕ
+lastReadOf n = n / of16Bits % of8Bits
 
 -- bits 24 to 31
 abbrev pub betweenOf : ℕ → ℕ

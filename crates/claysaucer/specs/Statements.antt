@@ -11,7 +11,7 @@ use Rattle.header.specs.Header.{maxLog}
 use Rattle.runlog.specs.declared.Outcome.{Outcome}
 use Rattle.runlog.specs.Records.{recordSize}
 use Rattle.runlog.specs.Runs.{judgeOf}
-use Rattle.claysaucer.specs.Packed.{of8Bits, of32Bits, of64Bits, packedOf, verdictOf, stopOf, readOf, betweenOf, stepsOf}
+use Rattle.claysaucer.specs.Packed.{of8Bits, of32Bits, of64Bits, packedOf, verdictOf, stopOf, lastReadOf, betweenOf, stepsOf}
 
 -- each number fits its bits
 pub record Fitting (o : Outcome) : Type 0 where
@@ -24,7 +24,7 @@ pub record Fitting (o : Outcome) : Type 0 where
 pub record Unpacked (o : Outcome) (n : ℕ) : Type 0 where
   pub verdict : verdictOf n ≡ o .verdict
   pub stop : stopOf n ≡ o .stop
-  pub read : readOf n ≡ o .read
+  pub read : lastReadOf n ≡ o .read
   pub between : betweenOf n ≡ 0
   pub steps : stepsOf n ≡ o .steps
   pub within : n < of64Bits
