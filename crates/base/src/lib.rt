@@ -11,11 +11,11 @@ pub fn same(a: bool, b: bool) -> bool
 }
 
 // Why a step is refused: document 01's numbers, and 0 where it is taken.
-#[derive(Drop)]
+#[derive(Clone, Copy)]
 pub struct Refusal;
 
 // Why a run ends, besides a refused record: its number then is the refusal's.
-#[derive(Drop)]
+#[derive(Clone, Copy)]
 pub struct Stop;
 
 impl Refusal {

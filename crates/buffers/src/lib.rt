@@ -8,7 +8,7 @@ ghost use Rattle.buffers.specs.Stores.{no_entry};
 ghost use Rattle.buffers.specs.Fits.{is_cell_of};
 ghost use Rattle.buffers.specs.Buffers.{max_stores, empty_buffer, pending_of, push_of, pop_of, newer_of, newest_of, store_or_of};
 
-#[derive(Drop)]
+#[derive(Clone, Copy)]
 pub enum Phase {
     Idle,
     Init,
@@ -17,7 +17,7 @@ pub enum Phase {
 }
 
 // "A pending store is a mark, a field, fM, fA or phase with its value." An unused entry is the first case at zeros.
-#[derive(Drop)]
+#[derive(Clone, Copy)]
 pub enum Store {
     Mark { cell: u8, bit: bool },
     Field { cell: u8, field: u8, value: u8 },
@@ -27,7 +27,7 @@ pub enum Store {
 }
 
 // What a store writes or a look reads.
-#[derive(Drop)]
+#[derive(Clone, Copy)]
 pub enum Spot {
     Mark(u8),
     Field { cell: u8, field: u8 },
@@ -36,25 +36,25 @@ pub enum Spot {
     Phase,
 }
 
-#[derive(Drop)]
+#[derive(Clone, Copy)]
 pub struct Entry {
     pub store: Store,
 }
 
 // The pending entries are the first `len`; the others are unused.
-#[derive(Drop)]
+#[derive(Clone, Copy)]
 pub struct Buffer {
     pub entries: [Entry; Buffer::MAX],
     pub len: usize,
 }
 
-#[derive(Drop)]
+#[derive(Clone, Copy)]
 pub struct Pushed {
     pub taken: bool,
     pub buffer: Buffer,
 }
 
-#[derive(Drop)]
+#[derive(Clone, Copy)]
 pub struct Popped {
     pub taken: bool,
     pub entry: Entry,
@@ -62,7 +62,7 @@ pub struct Popped {
 }
 
 // The newest pending store to a spot.
-#[derive(Drop)]
+#[derive(Clone, Copy)]
 pub enum Newest {
     Nothing,
     Hit(Store),

@@ -5,7 +5,7 @@ ghost use Rattle.buffers.specs.Sources.{nearer_of, source_in, source_number, rea
 
 use super::{Buffer, Entry, Spot};
 
-#[derive(Drop)]
+#[derive(Clone, Copy)]
 pub enum Source {
     // nothing was read
     Nothing,

@@ -4,7 +4,7 @@ ghost use Rattle.std.specs.Prelude.{◌≡◌, ◌≤◌};
 ghost use Rattle.cells.specs.Sets.{max_set, no_cells, is_none, member_of, one_of, add_of, remove_of, union_of, minus_of, full_of, below_of, first_of};
 
 // What a set can hold.
-#[derive(Drop)]
+#[derive(Clone, Copy)]
 pub struct Limit;
 
 impl Limit {

@@ -3,7 +3,7 @@ ghost use Rattle.std.specs.Prelude.{◌≡◌};
 ghost use Rattle.formed.specs.Uses.{uses_of};
 
 // A place's row, in three columns.
-#[derive(Drop)]
+#[derive(Clone, Copy)]
 pub struct Uses {
     pub notes: u8,
     pub left: u8,

@@ -3,7 +3,7 @@ ghost use Rattle.std.specs.Prelude.{◌≡◌};
 ghost use Rattle.header.specs.Bytes.{byte_at, word_size, wide_size, joined_of, pair_at, quad_of, little_at};
 
 // How much more a byte, or four, count than those before.
-#[derive(Drop)]
+#[derive(Clone, Copy)]
 struct Weight;
 
 impl Weight {

@@ -13,7 +13,7 @@ use state::State;
 use state::opening::Heap;
 
 // What opening a log gives: 0 and its heap, or 12 and the empty heap.
-#[derive(Drop)]
+#[derive(Clone, Copy)]
 pub struct Opened {
     pub no: u8,
     pub heap: Heap,
@@ -25,7 +25,7 @@ impl Opened {
 }
 
 // Where the parts of a header stand, and how long they are.
-#[derive(Drop)]
+#[derive(Clone, Copy)]
 pub struct Layout;
 
 impl Layout {
@@ -41,7 +41,7 @@ impl Layout {
 }
 
 // Document 01's version, and document 02's.
-#[derive(Drop)]
+#[derive(Clone, Copy)]
 pub struct Version;
 
 impl Version {

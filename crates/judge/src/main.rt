@@ -3,7 +3,7 @@
 use runlog::Outcome;
 
 // What was read: how many bytes, and whether a read failed.
-#[derive(Drop)]
+#[derive(Clone, Copy)]
 struct Read {
     len: usize,
     failed: bool,

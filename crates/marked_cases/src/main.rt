@@ -15,7 +15,7 @@ fn say(text: &[u8]) {
 }
 
 // The numbers of the judge's line, which are those of the table.
-#[derive(Drop)]
+#[derive(Clone, Copy)]
 struct Numbers {
     steps: u32,
     stop: u8,

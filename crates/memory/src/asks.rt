@@ -8,7 +8,7 @@ use buffers::sources::Source;
 use buffers::{Entry, Spot, Store};
 
 // A change of memory.
-#[derive(Drop)]
+#[derive(Clone, Copy)]
 pub enum Change {
     Write(Store),
     // one's oldest store is applied
@@ -20,7 +20,7 @@ pub enum Change {
 }
 
 // What a step asks of memory: this decides which of the checks 5 and 7 to 11 it has to pass.
-#[derive(Drop)]
+#[derive(Clone, Copy)]
 pub enum Ask {
     // "Handshake and list steps", an answer's read of the type, a root dropped
     Nothing,
@@ -48,7 +48,7 @@ impl Ask {
 
 // What an ask that changes nothing is told: the number, 0 for taken; what was seen, said as the store that would
 // write it, and where that came from; whether the sweep's cell is occupied.
-#[derive(Drop)]
+#[derive(Clone, Copy)]
 pub struct Sight {
     pub no: u8,
     pub used: bool,

@@ -14,12 +14,12 @@ use buffers::sources::Source;
 use buffers::{Buffer, Phase, Store};
 
 // The phase as memory holds it: a struct, so that it can be stored to as a field.
-#[derive(Drop)]
+#[derive(Clone, Copy)]
 pub struct PhaseWord {
     pub phase: Phase,
 }
 
-#[derive(Drop)]
+#[derive(Clone, Copy)]
 pub struct Memory {
     // N: the cells are 1 to N, and 0 is null
     pub cells: u8,
@@ -40,39 +40,39 @@ pub struct Memory {
 }
 
 // A step's answer: document 01's number, 0 where it is taken. A refusal hands the same memory back.
-#[derive(Drop)]
+#[derive(Clone, Copy)]
 pub struct Done {
     pub no: u8,
     pub memory: Memory,
 }
 
 // What a look sees, said as the store that would write it. A refused look sees the empty store.
-#[derive(Drop)]
+#[derive(Clone, Copy)]
 pub struct Seen {
     pub no: u8,
     pub store: Store,
 }
 
-#[derive(Drop)]
+#[derive(Clone, Copy)]
 pub struct SeenBit {
     pub no: u8,
     pub bit: bool,
 }
 
-#[derive(Drop)]
+#[derive(Clone, Copy)]
 pub struct SeenValue {
     pub no: u8,
     pub value: u8,
 }
 
-#[derive(Drop)]
+#[derive(Clone, Copy)]
 pub struct SeenPhase {
     pub no: u8,
     pub phase: Phase,
 }
 
 // What the sweep's look sees: it may find the cell free.
-#[derive(Drop)]
+#[derive(Clone, Copy)]
 pub struct Swept {
     pub no: u8,
     pub used: bool,
@@ -80,31 +80,31 @@ pub struct Swept {
 }
 
 // What each look tells: what it saw, and where that came from. Nothing was read where it is refused.
-#[derive(Drop)]
+#[derive(Clone, Copy)]
 pub struct Read {
     pub seen: Seen,
     pub from: Source,
 }
 
-#[derive(Drop)]
+#[derive(Clone, Copy)]
 pub struct ReadBit {
     pub seen: SeenBit,
     pub from: Source,
 }
 
-#[derive(Drop)]
+#[derive(Clone, Copy)]
 pub struct ReadValue {
     pub seen: SeenValue,
     pub from: Source,
 }
 
-#[derive(Drop)]
+#[derive(Clone, Copy)]
 pub struct ReadPhase {
     pub seen: SeenPhase,
     pub from: Source,
 }
 
-#[derive(Drop)]
+#[derive(Clone, Copy)]
 pub struct ReadSwept {
     pub seen: Swept,
     pub from: Source,

@@ -20,7 +20,7 @@ use memory::{Memory, PhaseWord};
 
 // One step of a sequence: six bytes, a letter (see `acts`), four digits and a space. The digits go on after 9 by the
 // bytes' numbers: p is 64, q 65.
-#[derive(Drop)]
+#[derive(Clone, Copy)]
 struct Act {
     letter: u8,
     p: u8,

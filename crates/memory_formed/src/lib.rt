@@ -7,7 +7,7 @@ use buffers::Buffer;
 use memory::Memory;
 
 // The least counts. The greatest are those of `Memory`.
-#[derive(Drop)]
+#[derive(Clone, Copy)]
 pub struct Least;
 
 impl Least {

@@ -10,7 +10,7 @@ use state::codes::{RoundStage, Stage};
 use state::{Choice, Process, RoundType};
 
 // A round of the collector: its type, and the place and stage that follow it.
-#[derive(Drop)]
+#[derive(Clone, Copy)]
 pub struct Round {
     pub kind: RoundType,
     pub place: u8,

@@ -11,7 +11,7 @@ use verdict::Finding;
 
 // "The count is of the records taken before the stop; the verdict is that of the state then". "The last such answer of a
 // run becomes a fourth number": where the last value read came from.
-#[derive(Drop)]
+#[derive(Clone, Copy)]
 pub struct Outcome {
     pub steps: u32,
     pub stop: u8,

@@ -6,7 +6,7 @@ use header::bytes::joined;
 use state::Choice;
 
 // What a record asks for, and its check.
-#[derive(Drop)]
+#[derive(Clone, Copy)]
 pub struct Record {
     pub choice: Choice,
     pub check: u16,

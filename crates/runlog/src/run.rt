@@ -13,7 +13,7 @@ use state::{State, acts};
 
 // What a run has come to: the state, the records taken, the stop, 0 while there is none, and where the last value read
 // came from.
-#[derive(Drop)]
+#[derive(Clone, Copy)]
 pub struct Run {
     pub state: State,
     pub steps: u32,

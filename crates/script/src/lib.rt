@@ -6,7 +6,7 @@ ghost use Rattle.script.specs.Script.{digit_at, rest_of, change_of, number_of};
 use header::bytes::byte;
 
 // One change: a letter and four digits.
-#[derive(Drop)]
+#[derive(Clone, Copy)]
 pub struct Change {
     pub letter: u8,
     pub p: u8,

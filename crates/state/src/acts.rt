@@ -8,7 +8,7 @@ use super::{Handshake, Part, Process, RoundType, State, System};
 use memory::Memory;
 
 // What a step does besides memory and its own process.
-#[derive(Drop)]
+#[derive(Clone, Copy)]
 pub enum Act {
     Nothing,
     // the system's work list becomes this one
@@ -19,7 +19,7 @@ pub enum Act {
     Raises(u8),
 }
 
-#[derive(Drop)]
+#[derive(Clone, Copy)]
 pub struct Going {
     pub process: Process,
     pub act: Act,
@@ -27,7 +27,7 @@ pub struct Going {
 
 // What a step may know besides its own process and what it saw: N, M, the system's part, and whether the flag of the
 // mutator that x names is up.
-#[derive(Drop)]
+#[derive(Clone, Copy)]
 pub struct Setting {
     pub cells: u8,
     pub mutators: u8,

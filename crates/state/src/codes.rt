@@ -1,23 +1,23 @@
 // Places, stages and operations by their numbers.
 
 // The places of the two programs. A number from BEYOND on is none.
-#[derive(Drop)]
+#[derive(Clone, Copy)]
 pub struct Place;
 
 // The stage where there is neither a mark nor a round.
-#[derive(Drop)]
+#[derive(Clone, Copy)]
 pub struct Stage;
 
 // The stages of a mark: "Each of these seven is one step."
-#[derive(Drop)]
+#[derive(Clone, Copy)]
 pub struct MarkStage;
 
 // The stages of a round: "fence; set type ..; raise ..; poll".
-#[derive(Drop)]
+#[derive(Clone, Copy)]
 pub struct RoundStage;
 
 // "At top the choice names an operation".
-#[derive(Drop)]
+#[derive(Clone, Copy)]
 pub struct Operation;
 
 // A mutator's.

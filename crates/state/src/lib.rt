@@ -12,7 +12,7 @@ ghost use Rattle.state.specs.States.{next_of, type_number, phase_number, no_proc
 ghost use Rattle.state.specs.Choices.{field_left_of, is_blank, is_naming, is_scanning, is_scanning_on, is_bare, is_of_x};
 
 // A handshake phase: "Idle, IdleInit, InitMark, Mark, IdleMarkSweep, Idle".
-#[derive(Drop)]
+#[derive(Clone, Copy)]
 pub enum Handshake {
     Idle,
     IdleInit,
@@ -22,7 +22,7 @@ pub enum Handshake {
 }
 
 // A handshake's type: "no-op, roots, work".
-#[derive(Drop)]
+#[derive(Clone, Copy)]
 pub enum RoundType {
     Noop,
     Roots,
@@ -30,7 +30,7 @@ pub enum RoundType {
 }
 
 // A mutator's part in the handshakes.
-#[derive(Drop)]
+#[derive(Clone, Copy)]
 pub struct Part {
     pub raised: bool,
     pub in_step: bool,
@@ -38,7 +38,7 @@ pub struct Part {
 }
 
 // A process: its place, its notes, its lists. What its place does not use is zero.
-#[derive(Drop)]
+#[derive(Clone, Copy)]
 pub struct Process {
     pub place: u8,
     pub stage: u8,
@@ -62,14 +62,14 @@ pub struct Process {
 }
 
 // The system's part: type, handshake phase, work list.
-#[derive(Drop)]
+#[derive(Clone, Copy)]
 pub struct System {
     pub kind: RoundType,
     pub phase: Handshake,
     pub work: u64,
 }
 
-#[derive(Drop)]
+#[derive(Clone, Copy)]
 pub struct State {
     pub memory: Memory,
     pub procs: [Process; Memory::PROCESSES],
@@ -77,7 +77,7 @@ pub struct State {
 }
 
 // What a record asks for: process, kind, operation, x, f, y.
-#[derive(Drop)]
+#[derive(Clone, Copy)]
 pub struct Choice {
     pub process: u8,
     pub kind: u8,
@@ -88,7 +88,7 @@ pub struct Choice {
 }
 
 // 0 and the next state, or the number of the refusal and the state as it came.
-#[derive(Drop)]
+#[derive(Clone, Copy)]
 pub struct Answer {
     pub no: u8,
     pub state: State,

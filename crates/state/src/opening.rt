@@ -9,7 +9,7 @@ use memory::{Memory, PhaseWord};
 
 // An opening heap: N, the number of processes M + 1, the occupied cells, their fields, and each mutator's roots,
 // mutator 1 first.
-#[derive(Drop)]
+#[derive(Clone, Copy)]
 pub struct Heap {
     pub cells: u8,
     pub processes: u8,

@@ -11,7 +11,7 @@ ghost use Rattle.verdict.specs.Judged.{loose_of, least_of, judged_of};
 use state::State;
 
 // A verdict and "the least such free cell (1), black cell (2) or mutator (3)"; the number is 0 with any other verdict.
-#[derive(Drop)]
+#[derive(Clone, Copy)]
 pub struct Finding {
     pub verdict: u8,
     pub number: u8,
