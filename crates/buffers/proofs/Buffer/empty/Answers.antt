@@ -1,0 +1,6 @@
+-- `buffers::Buffer::empty` meets its contract. Assumes nothing.
+use borrow.Author.Rules.{rules}
+use Rattle.buffers.proofs.Buffer.empty.Goals as goal
+
+pub returns : goal.returns
+returns c = simp c.empty-e.ensures

@@ -1,0 +1,19 @@
+-- `buffers::Buffer::source` meets its contract: after i turns of the loop it has found the newest among the first i
+-- entries. Assumes nothing.
+use Prim.Native.Nat.{◌≤◌, ◌-◌, min}
+use native.Mathlib.Omega.{arith}
+use mathlib.Core.Path.{◌≡◌, ◌∙◌, ap}
+use lib.ListN.{length, take}
+use borrow.Author.Rules.{rules}
+use Rattle.base.proofs.Lists.{carried, take_clamped}
+use Rattle.buffers.specs.Buffers.{max_stores}
+use Rattle.buffers.specs.Sources.{source_in}
+use Rattle.buffers.proofs.Nearest.{source_more}
+use Rattle.buffers.proofs.Buffer.source.Given as goal
+
+abbrev pub invariant-loop-i : goal.invariant-loop-i
+invariant-loop-i l =
+    (length l.self.entries ≡ max_stores) × (l.n ≡ min l.self.len max_stores) × (l.i ≤ l.n) × (l.found ≡ source_in l.at (take l.i l.self.entries))
+
+abbrev pub decreases-loop-i : goal.decreases-loop-i
+decreases-loop-i l = l.n - l.i

@@ -1,0 +1,6 @@
+-- `buffers::sources::Source::after` meets its contract. Assumes nothing.
+use borrow.Author.Rules.{rules}
+use Rattle.buffers.proofs.sources.Source.after.Goals as goal
+
+pub returns-in-Own : goal.returns-in-Own
+returns-in-Own c = simp c.in-Own.is
