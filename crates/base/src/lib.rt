@@ -1,5 +1,7 @@
 // What every crate above shares: one test of two bits here, and in specs/ and proofs/ how a choice, a loop and a
 // joined test are said and proved.
+#![tactic(auto)]
+
 ghost use Rattle.std.specs.Prelude.{◌≡◌};
 ghost use Rattle.base.specs.Pick.{same_bit};
 

@@ -1,4 +1,6 @@
 // "Each owns a FIFO buffer of at most 8 pending stores": a store, and a buffer of them, oldest first.
+#![tactic(auto)]
+
 mod ranges;
 pub mod sources;
 mod stores;

@@ -1,5 +1,7 @@
 // Sets of cells, or of mutators, by number: 1 to 64. 0 is null, and no set holds it, nor a number above 64.
 // Every function takes any set and any number.
+#![tactic(auto)]
+
 ghost use Rattle.std.specs.Prelude.{◌≡◌, ◌≤◌};
 ghost use Rattle.cells.specs.Sets.{max_set, no_cells, is_none, member_of, one_of, add_of, remove_of, union_of, minus_of, full_of, below_of, first_of};
 

@@ -1,1 +1,3 @@
 // What holds of every state that a run reaches.
+#![tactic(auto)]
+

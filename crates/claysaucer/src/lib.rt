@@ -1,4 +1,6 @@
 // The judge for C and Rust: one function on a byte slice that packs the four numbers.
+#![tactic(auto)]
+
 ghost use Rattle.std.specs.Prelude.{◌≡◌};
 ghost use Rattle.claysaucer.specs.Packed.{packed_of};
 ghost use Rattle.runlog.specs.Runs.{judge_of};

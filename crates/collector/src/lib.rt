@@ -1,6 +1,8 @@
 // "Collector": rows 1 to 11 of its table, but for row 7's mark (crate `marking`); the rounds are of crate `rounds`.
 // What each place offers, what its step asks of memory, and how it goes on with what was seen. c is the choice, q the
 // collector.
+#![tactic(auto)]
+
 ghost use Rattle.std.specs.Prelude.{◌≡◌};
 ghost use Rattle.state.specs.States.{at};
 ghost use Rattle.collector.specs.Collectors.{is_round_of, row_offers_of, collector_offers, row_ask_of, collector_ask, sensed, flipped, taking, others_of, scanning, dropping, sweep_from_of, sweeping, swept, row_round_of, row_go_of, list_go_of, collector_go};

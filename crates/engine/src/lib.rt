@@ -2,6 +2,8 @@
 // commit stands beside the own steps.
 // c is the choice, q the process that it names. `refuses`, `ask` and `go` take no state: so a run can keep one and
 // change it in place.
+#![tactic(auto)]
+
 ghost use Rattle.std.specs.Prelude.{◌≡◌};
 ghost use Rattle.engine.specs.Steps.{commit_refuses_of, refuses_of, ask_of, go_of, inner_of, step_of};
 

@@ -7,6 +7,8 @@
 // free; two mutators, 1 with the roots 1 and 2, 2 with the root 1; all else as at an opening: fM and fA 1, phase
 // Idle, type roots, flags down, the collector's noted fM 0. A case names the place of its process, and what is
 // changed of the ground.
+#![tactic(auto)]
+
 mod acts;
 mod places;
 mod same;

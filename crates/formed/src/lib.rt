@@ -1,5 +1,7 @@
 // Whether a state is well formed. Refusal 1: "the state is malformed: a count, cell, process, set, place or buffer
 // length out of range, or something unused not zero".
+#![tactic(auto)]
+
 use state::State;
 
 mod notes;

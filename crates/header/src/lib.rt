@@ -1,4 +1,6 @@
 // The header of a log: its bytes tested, clause by clause, and the heap that it gives.
+#![tactic(auto)]
+
 pub mod bytes;
 mod heap;
 mod tests;

@@ -1,5 +1,7 @@
 // The judge as a program: a log on standard input, one line on standard output. All that matters is in `runlog`; here
 // bytes are read and three numbers written.
+#![tactic(auto)]
+
 use runlog::Outcome;
 
 // What was read: how many bytes, and whether a read failed.

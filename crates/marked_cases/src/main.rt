@@ -1,5 +1,7 @@
 // Runs each log of the marked table through the judge, and writes a line for it: the case, the numbers expected and
 // given, and whether they are the same. The last line has the number of logs for which they differ.
+#![tactic(auto)]
+
 mod table;
 
 ghost use Rattle.std.specs.Prelude.{◌≤◌};

@@ -1,6 +1,8 @@
 // "Marking a cell r": seven steps, at four sites of the two programs. What each step offers, what it asks of memory,
 // and how it goes on with what was seen.
 // c is the choice, q the process that makes it.
+#![tactic(auto)]
+
 ghost use Rattle.std.specs.Prelude.{◌≡◌};
 ghost use Rattle.marking.specs.Marks.{is_site_of, names_root_of, mark_offers, marked_cell, stage_ask_of, mark_ask, named_root_of, on_stage, over_of, is_idle_of, look_go, sense_go, phase_go, again_go, write_go, unlock_go, stage_go_of, past_of, past_over_of, mark_go};
 

@@ -1,4 +1,6 @@
 // The memory of x86-TSO: cells, senses, phase, lock, and a buffer of pending stores for each process.
+#![tactic(auto)]
+
 pub mod asks;
 mod heap;
 mod looks;

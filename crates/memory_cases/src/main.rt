@@ -6,6 +6,8 @@
 // phase Idle, processes 0 to 2.
 // In the table x is field 0 of cell 1, y is field 0 of cell 2, z is field 0 of cell 3; "1 writes x" is a step of
 // process 1.
+#![tactic(auto)]
+
 mod acts;
 mod bounds;
 mod forms;

@@ -1,5 +1,7 @@
 // Refusal 1, as far as memory goes: "the state is malformed: a count, cell, process, set, .. or buffer length out of
 // range, or something unused not zero".
+#![tactic(auto)]
+
 ghost use Rattle.std.specs.Prelude.{◌≡◌};
 ghost use Rattle.memory_formed.specs.WellFormed.{counts_fit_of, cell_fits_of, cells_fit_of, held_fits_of, buffers_fit_of, fits_of, memory_formed_of};
 

@@ -1,6 +1,8 @@
 // "Mutator": a mutator's program, but for its marks (crate `marking`). What each place offers, what its step asks of
 // memory, and how it goes on with what was seen.
 // c is the choice, q the process that makes it.
+#![tactic(auto)]
+
 ghost use Rattle.std.specs.Prelude.{◌≡◌};
 ghost use Rattle.mutator.specs.Mutators.{allocates, drops, reads_field_of, stores_field_of, top_offers_of, mutator_offers, flag_waits, top_ask_of, mutator_ask, rooting, storing, answer_place_of, answering, top_go_of, written, past_fence_of, to, stepping, phase_now_of, phase_next_of, handing, mutator_go};
 

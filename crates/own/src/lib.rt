@@ -1,6 +1,8 @@
 // An own step of either program: what its place offers, what it asks of memory, and how it goes on with what was
 // seen. The place tells the program: a mark's is one of its own, a mutator's places come before the collector's. c is
 // the choice, q the process that makes it.
+#![tactic(auto)]
+
 ghost use Rattle.std.specs.Prelude.{◌≡◌};
 ghost use Rattle.own.specs.Owns.{own_offers, own_refuses, own_ask, own_go};
 

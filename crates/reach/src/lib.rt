@@ -1,4 +1,6 @@
 // What is held, and what is reached from it: "reach goes through memory's fields of occupied cells".
+#![tactic(auto)]
+
 pub mod holds;
 
 ghost use Rattle.std.specs.Prelude.{◌≡◌};

@@ -1,6 +1,8 @@
 // "A round is: fence; set type ..; raise each flag once, x naming the mutator; poll, x naming one still awaited,
 // until none is": written once, for the collector's six rounds.
 // What each step offers, what it asks of memory, and how it goes on. c is the choice, q the collector.
+#![tactic(auto)]
+
 ghost use Rattle.std.specs.Prelude.{◌≡◌};
 ghost use Rattle.rounds.specs.Rounds.{round_offers, round_ask, round_fenced, typing, raising, polling, poll_go, round_go};
 

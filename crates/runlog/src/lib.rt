@@ -1,4 +1,6 @@
 // The judge of a log: its header opened, its records run, and the four numbers.
+#![tactic(auto)]
+
 mod record;
 mod run;
 

@@ -1,1 +1,3 @@
 // No live cell is handed back.
+#![tactic(auto)]
+

@@ -1,5 +1,7 @@
 // What the programs that run cases read of their stored input: digits, how far a line goes on, and a change of the
 // ground.
+#![tactic(auto)]
+
 ghost use Rattle.std.specs.Prelude.{◌≡◌};
 ghost use Rattle.script.specs.Script.{digit_at, rest_of, change_of, number_of};
 

@@ -1,4 +1,6 @@
 // The whole state: memory, processes and handshakes, by value; what a step reads of it and how it changes it.
+#![tactic(auto)]
+
 use base::Refusal;
 use buffers::Spot;
 use memory::Memory;

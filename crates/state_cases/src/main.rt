@@ -2,6 +2,8 @@
 // of range (`places`); then every other clause broken alone.
 // These are the program's input, the file stdin beside src/, one to a line: a name, and the changes of the ground
 // that give its state. The answer is whether it is well formed; the file stdout has what document 01 wants.
+#![tactic(auto)]
+
 mod acts;
 mod ground;
 mod places;

@@ -3,6 +3,8 @@
 // The choices are the program's input, the file stdin beside src/, in chapters: a title, and the choices below it. A
 // choice is six digits, as a record has them: process, kind, operation, x, f, y. A refused choice is followed by the
 // next one, on the same state.
+#![tactic(auto)]
+
 mod names;
 
 use header::bytes::byte;

@@ -1,5 +1,7 @@
 // The verdict of a state: "1 loose", "2: a black cell has a memory field naming a white one", "3: the handshake table
 // is broken", "0: none of these", "4: malformed state".
+#![tactic(auto)]
+
 pub mod colours;
 pub mod states;
 pub mod table;

@@ -1,5 +1,7 @@
 // The verdicts, state by state: each state is made by hand from one ground, and document 01's words beside it say
 // what its finding must be.
+#![tactic(auto)]
+
 mod colours;
 mod ground;
 mod held;

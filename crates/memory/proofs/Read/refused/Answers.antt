@@ -1,0 +1,6 @@
+-- `memory::Read::refused` meets its contract. Assumes nothing.
+use borrow.Author.Rules.{rules}
+use Rattle.memory.proofs.Read.refused.Goals as goal
+
+pub returns : goal.returns
+returns c = rw c.refused-seen.ensures
