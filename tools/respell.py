@@ -103,7 +103,8 @@ def turn_antt(text, turned):
 
 
 def turn_rt(text, turned):
-    """Names of antt in code stand in clauses, ghost lines and comments; strings stay."""
+    """Names of antt in code stand in clauses, ghost lines and comments; strings stay, and so do names of functions."""
+    turned = {old: new for old, new in turned.items() if old != old.lower()}
     return "\n".join(
         '"'.join(turn_tokens(p, turned, False) if i % 2 == 0 else p for i, p in enumerate(l.split('"'))) for l in text.split("\n")
     )

@@ -22,7 +22,7 @@ fn store_fits(n: u8, q: Process) -> bool
 }
 
 // Of a store nothing is noted but, maybe, a cell x.
-fn no_store_lem(q: Process) -> bool
+fn no_store(q: Process) -> bool
     ensures { result ≡ no_store_of q }
 {
     if q.f == 0 {
@@ -42,12 +42,12 @@ pub fn notes_fit(used: u8, n: u8, q: Process) -> bool
     }
     if used == Uses::CELL {
         if is_cell(n, q.x) {
-            return no_store_lem(q);
+            return no_store(q);
         }
         return false;
     }
     if q.x == 0 {
-        return no_store_lem(q);
+        return no_store(q);
     }
     false
 }

@@ -75,7 +75,7 @@ pub fn used(log: &[u8], n: u8) -> u64
 }
 
 // The field f of the cell i + 1; 0 above N.
-fn field_in_lem(log: &[u8], n: u8, f: u8, i: u8) -> u8
+fn field_in(log: &[u8], n: u8, f: u8, i: u8) -> u8
     ensures { result ≡ field_in_of log.now n f i }
 {
     if i < n {
@@ -91,7 +91,7 @@ fn fields(log: &[u8], n: u8, f: u8) -> [u8; Memory::CELLS]
     let mut fields = [0u8; Memory::CELLS];
     let mut i = 0;
     while i < Memory::CELLS {
-        fields[i] = field_in_lem(log, n, f, i as u8);
+        fields[i] = field_in(log, n, f, i as u8);
         i += 1;
     }
     fields

@@ -8,7 +8,7 @@ pub returns-in-Lists : goal.returns-in-Lists
 returns-in-Lists c = simp (c.with_work.ensures, c.in-Lists.is)
 
 pub returns-in-Types : goal.returns-in-Types
-returns-in-Types c = simp (c.typed.type_inv.ensures, c.in-Types.is)
+returns-in-Types c = simp (c.typed.ensures, c.in-Types.is)
 
 pub returns-in-Raises : goal.returns-in-Raises
 returns-in-Raises c = simp c.in-Raises.is
