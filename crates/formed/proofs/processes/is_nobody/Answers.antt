@@ -1,6 +1,6 @@
 -- `formed::processes::is_nobody` meets its contract.
 use borrow.Author.Rules.{rules}
-use Rattle.base.proofs.Picks.{picks, when_eq, when_false, when_not_not}
+use Rattle.base.proofs.Picks.{picks, when_eq, when_false, when_yes}
 use Rattle.formed.specs.WellFormed.{nobody_of}
 use Rattle.formed.proofs.processes.is_nobody.Goals as goal
 
@@ -28,5 +28,5 @@ pub returns : goal.returns
 unfolding nobody_of
 returns c =
     when_eq _ _ _ _ _ _ c.if-q-ne-TOP.false
-    (when_not_not _ _ _ _ _ _ c.place_fits.ensures c.if-not-place_fits.false
+    (when_yes _ _ _ _ _ _ c.place_fits.ensures c.if-not-place_fits.false
     (when_eq _ _ _ _ _ _ c.if-q-ne0.false (when_eq _ _ _ _ _ _ c.if-q-ne0-2.false (when_false _ _ _ _ _ c.if-q.false c.no_part.ensures))))

@@ -1,0 +1,12 @@
+use borrow.Author.Rules.{rules}
+use Rattle.base.proofs.Picks.{picks}
+use Rattle.marking.specs.Marks.{sense_go}
+use Rattle.marking.proofs.sense.Goals as goal
+
+pub returns-then-same : goal.returns-then-same
+unfolding sense_go
+returns-then-same c = rw (← c.over.ensures) (search (rules, picks, c.if-same.true, c.same.ensures) depth 16)
+
+pub returns : goal.returns
+unfolding sense_go
+returns c = rw (← c.on.ensures) (search (rules, picks, c.if-same.false, c.same.ensures) depth 16)

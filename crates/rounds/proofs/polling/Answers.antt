@@ -1,0 +1,12 @@
+use borrow.Author.Rules.{rules}
+use Rattle.base.proofs.Picks.{picks}
+use Rattle.rounds.specs.Rounds.{polling}
+use Rattle.rounds.proofs.polling.Goals as goal
+
+pub returns-then-left-eq0 : goal.returns-then-left-eq0
+unfolding polling
+returns-then-left-eq0 c = search (rules, picks, c.if-left-eq0.true) depth 16
+
+pub returns : goal.returns
+unfolding polling
+returns c = search (rules, picks, c.if-left-eq0.false) depth 16
