@@ -1,0 +1,12 @@
+use borrow.Author.Rules.{rules}
+use Rattle.base.proofs.Picks.{picks}
+use Rattle.collector.specs.Collectors.{collector_offers}
+use Rattle.collector.proofs.offers.Goals as goal
+
+pub returns-then-is_round : goal.returns-then-is_round
+unfolding collector_offers
+returns-then-is_round c = rw (← c.offers.ensures) (search (rules, picks, c.if-is_round.true, c.is_round.ensures) depth 16)
+
+pub returns : goal.returns
+unfolding collector_offers
+returns c = rw (← c.row_offers.ensures) (search (rules, picks, c.if-is_round.false, c.is_round.ensures) depth 16)
