@@ -246,8 +246,8 @@ module _ (s : State) (w : WellFormed s) where
     collector_handshakes (Collector.writes_mark a b e) v = rests _ (rest _ a refl refl refl) v
     collector_handshakes (Collector.writes_alloc a b e) v = rests _ (rest _ a refl refl refl) v
     collector_handshakes (Collector.takes a b h) v = rests _ (take_rests _ a refl refl) v
-    collector_handshakes (Collector.Takes-none a b h) v = rests _ (take_rests _ a refl refl) v
-    collector_handshakes (Collector.Reads-first a b e h) v = rests _ (rest _ a refl refl refl) v
+    collector_handshakes (Collector.takes_none a b h) v = rests _ (take_rests _ a refl refl) v
+    collector_handshakes (Collector.reads_first a b e h) v = rests _ (rest _ a refl refl refl) v
     collector_handshakes (Collector.reads_first_null a b e) v = rests _ (rest _ a refl refl refl) v
     collector_handshakes (Collector.marks b i {t = t} e) v = scanned t i e v
     collector_handshakes (Collector.reads_next a b e h) v = rests _ (rest _ a refl refl refl) v

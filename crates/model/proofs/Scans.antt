@@ -111,8 +111,8 @@ module _ (s : State) (c : Choice) (q : Process) (e : q.place ≡ row7_first) whe
   first_read (Collector.writes_mark a b d) = absurd (omega (arith, a.place))
   first_read (Collector.writes_alloc a b d) = absurd (omega (arith, a.place))
   first_read (Collector.takes a b d) = absurd (⊎_elim (λ (i : At row6_take no_stage q). omega (arith, i.place)) (λ (i : At row8_take no_stage q). omega (arith, i.place)) a)
-  first_read (Collector.Takes-none a b d) = absurd (⊎_elim (λ (i : At row6_take no_stage q). omega (arith, i.place)) (λ (i : At row8_take no_stage q). omega (arith, i.place)) a)
-  first_read (Collector.Reads-first a b g h) = FirstRead.read b.field _ refl
+  first_read (Collector.takes_none a b d) = absurd (⊎_elim (λ (i : At row6_take no_stage q). omega (arith, i.place)) (λ (i : At row8_take no_stage q). omega (arith, i.place)) a)
+  first_read (Collector.reads_first a b g h) = FirstRead.read b.field _ refl
   first_read (Collector.reads_first_null a b g) = FirstRead.read b.field _ refl
   first_read (Collector.marks a b d) = absurd (no_mark_lem b)
   first_read (Collector.reads_next a b d g) = absurd (omega (arith, a.place))

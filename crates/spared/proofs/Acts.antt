@@ -169,8 +169,8 @@ module _ (s : State) (c : Choice) where
     collector_acts (Collector.writes_mark a b {m} e) = out (with_memory s m) _ a refl refl refl
     collector_acts (Collector.writes_alloc a b {m} e) = out (with_memory s m) _ a refl refl refl
     collector_acts (Collector.takes a b h) = ⊎_elim (λ i. out (with_system s (with_list s.system no_cells)) _ i refl refl refl) (λ i. out (with_system s (with_list s.system no_cells)) _ i refl refl refl) a
-    collector_acts (Collector.Takes-none a b h) = ⊎_elim (λ i. out (with_system s (with_list s.system no_cells)) _ i refl refl refl) (λ i. out (with_system s (with_list s.system no_cells)) _ i refl refl refl) a
-    collector_acts (Collector.Reads-first a b e h) = out s _ a refl refl refl
+    collector_acts (Collector.takes_none a b h) = ⊎_elim (λ i. out (with_system s (with_list s.system no_cells)) _ i refl refl refl) (λ i. out (with_system s (with_list s.system no_cells)) _ i refl refl refl) a
+    collector_acts (Collector.reads_first a b e h) = out s _ a refl refl refl
     collector_acts (Collector.reads_first_null a b e) = out s _ a refl refl refl
     collector_acts (Collector.marks b i {m} {t} e) = After.after (with_memory s m) t (Acts.marks i (λ j _. omega arith) e)
     collector_acts (Collector.reads_next a b e h) = out s _ a refl refl refl

@@ -219,7 +219,7 @@ module _ (s : State) (c : Choice) (w : WellFormed s) (z : c.process ≡ 0) where
   collector_begins (Collector.writes_mark a b {m} e) = goes (with_memory s m) _ a refl refl refl
   collector_begins (Collector.writes_alloc a b {m} e) = goes (with_memory s m) _ a refl refl refl
   collector_begins (Collector.takes a b h) = After.after (with_system s (with_list s.system no_cells)) _ (scans refl)
-  collector_begins (Collector.Takes-none a b h) =
+  collector_begins (Collector.takes_none a b h) =
       After.after (with_system s (with_list s.system no_cells)) _
       (record {
         listed = λ _. inl refl;
@@ -228,7 +228,7 @@ module _ (s : State) (c : Choice) (w : WellFormed s) (z : c.process ≡ 0) where
         ended = λ _. inr (record { process = z; take = a; none = h });
         swept = λ i. absurd (false≢true i);
       })
-  collector_begins (Collector.Reads-first a b e h) = goes s _ a refl refl refl
+  collector_begins (Collector.reads_first a b e h) = goes s _ a refl refl refl
   collector_begins (Collector.reads_first_null a b e) = goes s _ a refl refl refl
   collector_begins (Collector.marks b i {m} {t} e) = marks (with_memory s m) t i e
   collector_begins (Collector.reads_next a b e h) = goes s _ a refl refl refl

@@ -221,8 +221,8 @@ module _ (s : State) (c : Choice) (v : Spared s) where
   own_scans z f u (Collector.writes_mark a b {m} e) = plain (with_memory s m) _ refl refl refl
   own_scans z f u (Collector.writes_alloc a b {m} e) = plain (with_memory s m) _ refl refl refl
   own_scans z f u (Collector.takes a b h) = plain (with_system s _) _ refl refl refl
-  own_scans z f u (Collector.Takes-none a b h) = plain (with_system s _) _ refl refl refl
-  own_scans z f u (Collector.Reads-first a b {v = w} e h) =
+  own_scans z f u (Collector.takes_none a b h) = plain (with_system s _) _ refl refl refl
+  own_scans z f u (Collector.reads_first a b {v = w} e h) =
       let k = sees s v c.x c.f w e in
       After.after s _ (record {
         listed = λ _. b.cell;

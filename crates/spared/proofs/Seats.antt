@@ -111,8 +111,8 @@ module _ (s : State) (c : Choice) (own : c.kind ≡ 0) (mine : c.process ≡ 0) 
   collector_seated (Collector.writes_mark a b {m} e) = on (with_memory s m) _ a refl
   collector_seated (Collector.writes_alloc a b {m} e) = on (with_memory s m) _ a refl
   collector_seated (Collector.takes a b h) = ⊎_elim (λ i. on (with_system s (with_list s.system no_cells)) _ i refl) (λ i. on (with_system s (with_list s.system no_cells)) _ i refl) a
-  collector_seated (Collector.Takes-none a b h) = ⊎_elim (λ i. on (with_system s (with_list s.system no_cells)) _ i refl) (λ i. on (with_system s (with_list s.system no_cells)) _ i refl) a
-  collector_seated (Collector.Reads-first a b e h) = on s _ a refl
+  collector_seated (Collector.takes_none a b h) = ⊎_elim (λ i. on (with_system s (with_list s.system no_cells)) _ i refl) (λ i. on (with_system s (with_list s.system no_cells)) _ i refl) a
+  collector_seated (Collector.reads_first a b e h) = on s _ a refl
   collector_seated (Collector.reads_first_null a b e) = on s _ a refl
   collector_seated (Collector.marks b i {m} {t} e) = let z = scans f i in After.after (with_memory s m) t (Seated.leads own mine (rw z (mark_leads_lem z e)))
   collector_seated (Collector.reads_next a b e h) = on s _ a refl

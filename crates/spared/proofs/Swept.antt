@@ -191,8 +191,8 @@ module _ (s : State) (c : Choice) (v : Spared s) where
   own_sweeps z u (Collector.writes_mark a b {m} e) = plain (with_memory s m) _ refl refl
   own_sweeps z u (Collector.writes_alloc a b {m} e) = plain (with_memory s m) _ refl refl
   own_sweeps z u (Collector.takes a b h) = plain (with_system s _) _ refl refl
-  own_sweeps z u (Collector.Takes-none a b h) = plain (with_system s _) _ refl refl
-  own_sweeps z u (Collector.Reads-first a b e h) = plain s _ refl refl
+  own_sweeps z u (Collector.takes_none a b h) = plain (with_system s _) _ refl refl
+  own_sweeps z u (Collector.reads_first a b e h) = plain s _ refl refl
   own_sweeps z u (Collector.reads_first_null a b e) = plain s _ refl refl
   own_sweeps z u (Collector.marks b i {m} {t = o} e) = plain (with_memory s m) o refl (onward_away i (mark_carries e).way)
   own_sweeps z u (Collector.reads_next a b e h) = plain s _ refl refl

@@ -109,8 +109,8 @@ module _ (s : State) (w : WellFormed s) (c : Choice) where
   collector_turns (Collector.writes_mark a b {m} e) = same (with_memory s m) _ refl refl refl
   collector_turns (Collector.writes_alloc a b {m} e) = same (with_memory s m) _ refl refl refl
   collector_turns (Collector.takes a b h) = After.after (with_system s (with_list s.system no_cells)) _ (Turns.takes a refl refl refl)
-  collector_turns (Collector.Takes-none a b h) = After.after (with_system s (with_list s.system no_cells)) _ (Turns.takes a (sym h) refl refl)
-  collector_turns (Collector.Reads-first a b e h) = same s _ refl refl refl
+  collector_turns (Collector.takes_none a b h) = After.after (with_system s (with_list s.system no_cells)) _ (Turns.takes a (sym h) refl refl)
+  collector_turns (Collector.reads_first a b e h) = same s _ refl refl refl
   collector_turns (Collector.reads_first_null a b e) = same s _ refl refl refl
   collector_turns (Collector.marks b i {m} {t} e) = After.after (with_memory s m) t (marked (collects refl w.collector) i (λ j _. omega (arith, (collector_within w.collector).0)) e)
   collector_turns (Collector.reads_next a b e h) = same s _ refl refl refl

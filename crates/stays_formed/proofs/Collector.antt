@@ -168,8 +168,8 @@ module _ (s : State) (c : Choice) (q : Process) (w : WellFormed s) (f : Collecto
   collector_kept (Collector.writes_alloc a b e) =
       let k = plain_at row5_alloc refl a.place f in wrote (store.AllocSense q.sense) _ tt refl e (renoted f f.work (now_round refl refl k.no_x k.left k.mark))
   collector_kept (Collector.takes a b h) = took row7_first s.system.work refl w.system a
-  collector_kept (Collector.Takes-none a b h) = took row9_write no_cells refl (below_empty s.memory.cells) a
-  collector_kept (Collector.Reads-first a b {v = v} e h) =
+  collector_kept (Collector.takes_none a b h) = took row9_write no_cells refl (below_empty s.memory.cells) a
+  collector_kept (Collector.reads_first a b {v = v} e h) =
       let k = plain_at row7_first refl a.place f in
       goes _ (renoted f f.work (now_mark refl refl (below_range q.work s.memory.cells c.x f.work b.cell) others (omega arith, seen c.x c.f e) k.mark.no_look k.mark.no_grey))
   collector_kept (Collector.reads_first_null a b e) =

@@ -126,8 +126,8 @@ module _ (s : State) (c : Choice) (p : ℕ) (q : Process) where
   collector_does {t = t} h (Collector.writes_mark a b e) = does (at_place c q row5_phase no_stage a) p s.memory t.memory e
   collector_does {t = t} h (Collector.writes_alloc a b e) = does (at_place c q row5_alloc no_stage a) p s.memory t.memory e
   collector_does {t = t} h (Collector.takes a b i) = ⊎_elim (λ (j : At row6_take no_stage q). does (at_place c q row6_take no_stage j) p s.memory t.memory refl) (λ (j : At row8_take no_stage q). does (at_place c q row8_take no_stage j) p s.memory t.memory refl) a
-  collector_does {t = t} h (Collector.Takes-none a b i) = ⊎_elim (λ (j : At row6_take no_stage q). does (at_place c q row6_take no_stage j) p s.memory t.memory refl) (λ (j : At row8_take no_stage q). does (at_place c q row8_take no_stage j) p s.memory t.memory refl) a
-  collector_does {t = t} h (Collector.Reads-first a b e i) = does (at_place c q row7_first no_stage a) p s.memory t.memory refl
+  collector_does {t = t} h (Collector.takes_none a b i) = ⊎_elim (λ (j : At row6_take no_stage q). does (at_place c q row6_take no_stage j) p s.memory t.memory refl) (λ (j : At row8_take no_stage q). does (at_place c q row8_take no_stage j) p s.memory t.memory refl) a
+  collector_does {t = t} h (Collector.reads_first a b e i) = does (at_place c q row7_first no_stage a) p s.memory t.memory refl
   collector_does {t = t} h (Collector.reads_first_null a b e) = does (at_place c q row7_first no_stage a) p s.memory t.memory refl
   collector_does {t = t} h (Collector.marks b i e) = mark_does c p q i h e
   collector_does {t = t} h (Collector.reads_next a b e i) = does (at_place c q row7_next no_stage a) p s.memory t.memory refl

@@ -82,8 +82,8 @@ module _ {s : State} {c : Choice} {q : Process} (k : c.kind ≡ 0) where
   collector_changes (Collector.writes_mark a b e) = Changed.stores (Stored.writes k (Writes.marking a) e) _
   collector_changes (Collector.writes_alloc a b e) = Changed.stores (Stored.writes k (Writes.alloc a) e) _
   collector_changes (Collector.takes a b h) = Changed.system (Handed.takes a) _
-  collector_changes (Collector.Takes-none a b h) = Changed.system (Handed.takes a) _
-  collector_changes (Collector.Reads-first a b e h) = Changed.stores Stored.same _
+  collector_changes (Collector.takes_none a b h) = Changed.system (Handed.takes a) _
+  collector_changes (Collector.reads_first a b e h) = Changed.stores Stored.same _
   collector_changes (Collector.reads_first_null a b e) = Changed.stores Stored.same _
   collector_changes (Collector.marks b i e) = Changed.stores (mark_stores k i e) _
   collector_changes (Collector.reads_next a b e h) = Changed.stores Stored.same _

@@ -1,0 +1,21 @@
+-- `verdict::colours::greys` meets its contract: after i turns of the loop the greys of the first i processes are
+-- there. Assumes nothing.
+use Prim.Native.Nat.{◌≤◌, ◌-◌}
+use native.Mathlib.Omega.{arith}
+use mathlib.Core.Path.{◌≡◌, ◌∙◌, ap}
+use lib.ListN.{length, take}
+use lib.Seq.{take_all}
+use borrow.Author.Rules.{rules}
+use Rattle.base.specs.Pick.{through}
+use Rattle.base.proofs.Lists.{carried, through_more}
+use Rattle.memory.specs.Memories.{max_processes}
+use Rattle.state.specs.States.{no_process}
+use Rattle.verdict.specs.Colours.{with_greys_of, greys_of}
+use Rattle.verdict.proofs.colours.greys.Given as goal
+
+abbrev pub invariant-loop-i : goal.invariant-loop-i
+invariant-loop-i l =
+    (length l.s.procs ≡ max_processes) × (l.i ≤ max_processes) × (l.greys ≡ through with_greys_of l.s.system.work (take l.i l.s.procs))
+
+abbrev pub decreases-loop-i : goal.decreases-loop-i
+decreases-loop-i l = max_processes - l.i
