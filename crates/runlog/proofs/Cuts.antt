@@ -121,11 +121,11 @@ module _ (log rest : List ℕ) (a : Admitted log) (m : length (log ++ rest) ≤ 
   more_taken (more k s t p w r e) =
       more k s t (more_taken p) (more_whole k w) (rw (more_record k w) r) (rw (more_record k w) e)
 
-  more_stops : {k n : ℕ} {s : State} → Stops log k s n → (n ≡ 0 → ⊥) → (n ≡ few_left → ⊥) → Stops (log ++ rest) k s n
+  more_stops : {k : ℕ} {s : State} {n : ℕ} → Stops log k s n → (n ≡ 0 → ⊥) → (n ≡ few_left → ⊥) → Stops (log ++ rest) k s n
   more_stops (ended e) x y = absurd (x refl)
   more_stops (short b e) x y = absurd (y refl)
-  more_stops {k} {n} {s} (wrong w r) x y = wrong (more_whole k w) (rw (more_record k w) r)
-  more_stops {k} {n} {s} (refused w r e) x y =
+  more_stops {k} {s} {n} (wrong w r) x y = wrong (more_whole k w) (rw (more_record k w) r)
+  more_stops {k} {s} {n} (refused w r e) x y =
       let q = more_record k w in
       rw (← q) (refused (more_whole k w) (rw q r) (rw q e))
 

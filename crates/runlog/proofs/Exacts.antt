@@ -100,21 +100,21 @@ module _ (log : List ℕ) (adm : Admitted log) where
       ap (λ (q : Run). closed_of q (left_of log)) (sym (run_stays log (size_of log) (opening_of (heap_of log)) (ended_of s k n v) (whole_of log) (suc k) (sym e) z l))
       ∙ closed_stays (ended_of s k n v) (left_of log) z
 
-  pub stops_run : {k n : ℕ} {s : State} (p : Taken log k s) → Stops log k s n → ran_of log ≡ ended_of s k n (read_to log p)
+  pub stops_run : {k : ℕ} {s : State} {n : ℕ} (p : Taken log k s) → Stops log k s n → ran_of log ≡ ended_of s k n (read_to log p)
   unfolding played_of
-  stops_run {k} {n} {s} p (ended e) =
+  stops_run {k} {s} {n} p (ended e) =
       let w : whole_of log ≡ k = omega arith in
       let l : left_of log ≡ 0 = omega arith in
       ap (λ (q : ℕ). closed_of (after_of log q) (left_of log)) w ∙ ap (λ (q : Run). closed_of q (left_of log)) (taken_run p) ∙ closed_none (ended_of s k 0 (read_to log p)) (left_of log) refl l
-  stops_run {k} {n} {s} p (short a b) =
+  stops_run {k} {s} {n} p (short a b) =
       let w : whole_of log ≡ k = omega arith in
       ap (λ (q : ℕ). closed_of (after_of log q) (left_of log)) w
       ∙ ap (λ (q : Run). closed_of q (left_of log)) (taken_run p)
       ∙ closed_few (ended_of s k 0 (read_to log p)) (left_of log) refl (λ z. omega arith)
-  stops_run {k} {n} {s} p (wrong w r) =
+  stops_run {k} {s} {n} p (wrong w r) =
       let v = read_to log p in
       halted k wrong_check s v w (λ z. omega arith) (next k s v (taken_run p) ∙ turn_wrong (ended_of s k 0 v) (record_of log k) (answer k s) r)
-  stops_run {k} {n} {s} p (refused w r a) =
+  stops_run {k} {s} {n} p (refused w r a) =
       let v = read_to log p in
       halted k (answer k s).no s v w a
       (next k s v (taken_run p) ∙ turn_right (ended_of s k 0 v) (record_of log k) (answer k s) r ∙ answered_refused (ended_of s k 0 v) (reads k s) (answer k s) a)

@@ -21,6 +21,7 @@ use Rattle.state.proofs.Lists.{unshaken, shaken_sized, seat_small}
 use Rattle.engine.proofs.InPlace.{loop_refused, loop_read, loop_unseen, loop_unmade, loop_taken}
 use Rattle.runlog.proofs.Turns.{Ongoing, wrong_halts, refused_halts, taken_goes}
 use Rattle.runlog.proofs.run.records.Goals as goal
+use Rattle.runlog.proofs.run.records.Goals.{then-changes+else-d-ne0, else-changes, then-shakes, else-shakes}
 
 pub loop-steps-init : goal.loop-steps-init
 loop-steps-init c = (search rules, (search (rules, carried), refl))
@@ -37,6 +38,12 @@ offset_bounds-state-i c =
     let i = c.seat-i in
     let h : i.result < max_processes = rw i.ensures (seat_small _) in
     omega (arith, h)
+
+pub bounds-state-i : goal.bounds-state-i
+bounds-state-i c =
+    let i = c.seat-i in
+    let h : i.result < max_processes = rw i.ensures (seat_small _) in
+    omega (arith, h, c.loop-steps.invariant.1.0)
 
 pub returns-then-no-ne0 : goal.returns-then-no-ne0
 returns-then-no-ne0 c =
@@ -65,6 +72,12 @@ offset_bounds-state-j c =
     let h : i.result < max_processes = rw i.ensures (seat_small _) in
     omega (arith, h)
 
+pub bounds-state-j : goal.bounds-state-j
+bounds-state-j c =
+    let i = c.seat-j in
+    let h : i.result < max_processes = rw i.ensures (seat_small _) in
+    omega (arith, h, c.loop-steps.invariant.1.0)
+
 pub returns-then-d-ne0 : goal.returns-then-d-ne0
 returns-then-d-ne0 c =
     let a = c.args in
@@ -83,6 +96,22 @@ offset_bounds-state-i-in-loop-steps c =
     let i = c.seat-i in
     let h : i.result < max_processes = rw i.ensures (seat_small _) in
     omega (arith, h)
+
+pub bounds-state-i-in-loop-steps : goal.bounds-state-i-in-loop-steps
+bounds-state-i-in-loop-steps c =
+    let l = c.loop-steps in
+    let i = c.seat-i in
+    let g = c.go-g in
+    let s4 = c.if-changes in
+    let s6 = c.if-shakes in
+    let p4 : s4.state.procs ≡ l.state.procs = elim s4.branch [ then-changes+else-d-ne0 w ↦ ap (λ (x : State). x.procs) w.state-is | else-changes w ↦ ap (λ (x : State). x.procs) w.state-is ] in
+    let p6 : s6.state.procs ≡ shaken_of s4.state.procs g.result.act =
+        elim s6.branch [
+          then-shakes w ↦ ap (λ (x : State). x.procs) w.state-is ∙ w.shaken-shaken.ensures
+        | else-shakes w ↦ ap (λ (x : State). x.procs) w.state-is ∙ sym (unshaken s4.state.procs g.result.act (sym c.shakes.ensures ∙ w.if-shakes.false)) ] in
+    let sized : length s6.state.procs ≡ max_processes = ap length p6 ∙ shaken_sized s4.state.procs g.result.act ∙ ap length p4 ∙ l.invariant.1.0 in
+    let h : i.result < max_processes = rw i.ensures (seat_small _) in
+    omega (arith, h, sized)
 
 pub overflow_add-steps : goal.overflow_add-steps
 overflow_add-steps c = omega (arith, c.loop-steps-test.true, c.ranges.whole.fits)
@@ -103,17 +132,19 @@ loop-steps-preserved c =
     let g = c.go-g in
     let s4 = c.if-changes in
     let s6 = c.if-shakes in
-    let p4 : s4.state.procs ≡ l.state.procs = ⊎_elim (λ w. ap (λ (x : State). x.procs) w.6) (λ w. ap (λ (x : State). x.procs) w.1) s4.branch in
+    let p4 : s4.state.procs ≡ l.state.procs = elim s4.branch [ then-changes+else-d-ne0 w ↦ ap (λ (x : State). x.procs) w.state-is | else-changes w ↦ ap (λ (x : State). x.procs) w.state-is ] in
     let p6 : s6.state.procs ≡ shaken_of s4.state.procs g.result.act =
-    ⊎_elim (λ w. ap (λ (x : State). x.procs) w.3 ∙ w.2.ensures)
-    (λ w. ap (λ (x : State). x.procs) w.1 ∙ sym (unshaken s4.state.procs g.result.act (sym c.shakes.ensures ∙ w.0.left))) s6.branch in
+        elim s6.branch [
+          then-shakes w ↦ ap (λ (x : State). x.procs) w.state-is ∙ w.shaken-shaken.ensures
+        | else-shakes w ↦ ap (λ (x : State). x.procs) w.state-is ∙ sym (unshaken s4.state.procs g.result.act (sym c.shakes.ensures ∙ w.if-shakes.false)) ] in
     let sized : length s6.state.procs ≡ max_processes = ap length p6 ∙ shaken_sized s4.state.procs g.result.act ∙ ap length p4 ∙ l.invariant.1.0 in
     let j = c.seat-j in
     let m4 : made_of l.state.memory r.result.choice.process k.result ≡ taken s4.state.memory =
-    ⊎_elim (λ w. sym w.2.ensures ∙ is_taken w.2.result w.4.left ∙ ap (λ (x : State). taken x.memory) (sym w.6))
-    (λ w. unchanged l.state.memory r.result.choice.process k.result (sym c.changes.ensures ∙ w.0.left) ∙ ap (λ (x : State). taken x.memory) (sym w.1)) s4.branch in
-    let m6 : s6.state.memory ≡ s4.state.memory = ⊎_elim (λ w. ap (λ (x : State). x.memory) w.3) (λ w. ap (λ (x : State). x.memory) w.1) s6.branch in
-    let h6 : s6.state.system ≡ c.handed-system.result = ⊎_elim (λ w. ap (λ (x : State). x.system) w.3) (λ w. ap (λ (x : State). x.system) w.1) s6.branch in
+        elim s4.branch [
+          then-changes+else-d-ne0 w ↦ sym w.made-d.ensures ∙ is_taken w.made-d.result w.if-d-ne0.false ∙ ap (λ (x : State). taken x.memory) (sym w.state-is)
+        | else-changes w ↦ unchanged l.state.memory r.result.choice.process k.result (sym c.changes.ensures ∙ w.if-changes.false) ∙ ap (λ (x : State). taken x.memory) (sym w.state-is) ] in
+    let m6 : s6.state.memory ≡ s4.state.memory = elim s6.branch [ then-shakes w ↦ ap (λ (x : State). x.memory) w.state-is | else-shakes w ↦ ap (λ (x : State). x.memory) w.state-is ] in
+    let h6 : s6.state.system ≡ c.handed-system.result = elim s6.branch [ then-shakes w ↦ ap (λ (x : State). x.system) w.state-is | else-shakes w ↦ ap (λ (x : State). x.system) w.state-is ] in
     let w = loop_read l.state r.result.choice l.invariant.1.0 i.result i.ensures z k.result k.ensures v.result v.ensures in
     let t = loop_taken l.state r.result.choice l.invariant.1.0 i.result i.ensures z k.result k.ensures v.result v.ensures c.if-seen-ne0.false c.mutators.result j.result c.up.result g.result s6.state.memory s6.state.procs s6.state.system
     c.mutators.ensures j.ensures c.up.ensures g.ensures (m4 ∙ ap taken (sym m6)) (p6 ∙ ap (λ (x : List Process). shaken_of x g.result.act) p4) (h6 ∙ c.handed-system.ensures) in (

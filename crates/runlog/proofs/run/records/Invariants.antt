@@ -23,7 +23,7 @@ use Rattle.runlog.proofs.Turns.{Ongoing, wrong_halts, refused_halts, taken_goes}
 use Rattle.runlog.proofs.run.records.Given as goal
 
 abbrev pub invariant-loop-steps : goal.invariant-loop-steps
-invariant-loop-steps l = (l.steps ≤ l.whole) × ((length l.state.procs ≡ max_processes) × Ongoing l.log l.at l.start l.state l.steps l.read)
+invariant-loop-steps l = (l.steps ≤ l.whole) × ((length l.state.procs ≡ max_processes) × Ongoing l.log l.at l.fn.start l.state l.steps l.read)
 
 abbrev pub decreases-loop-steps : goal.decreases-loop-steps
 decreases-loop-steps l = l.whole - l.steps
