@@ -229,7 +229,7 @@ module _ (s : State) (c : Choice) (w : WellFormed s) (f : MutatorStores s) (v : 
       go (Moved.flips {x} {l} e) (no d) = absurd (no_sense {x = x} (plainly c.process (omega arith) (entry_for (store.Sense x)) (rw e (Memᴰ.head refl))))
 
   -- a process that does not step
-  stays : {d : Bool} {q u : Process} (m : ℕ) → 0 < m → m ≤ mutators_of s → (d ≡ s.memory.fm) ⊎ Idle s → Beside c q m (process_of s m) u → NotedBy s.memory.fm (process_of s m) → NotedBy d u
+  stays : {d : Bool} {q : Process} (m : ℕ) {u : Process} → 0 < m → m ≤ mutators_of s → (d ≡ s.memory.fm) ⊎ Idle s → Beside c q m (process_of s m) u → NotedBy s.memory.fm (process_of s m) → NotedBy d u
   stays m a b (inl e) Beside.same n = rw e n
   stays m a b (inl e) (Beside.raises r x y) n = rw e (record { sense = n.sense; left = n.left })
   stays m a b (inl e) (Beside.types r x) n = rw e (record { sense = n.sense; left = n.left })
