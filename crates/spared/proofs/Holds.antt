@@ -54,6 +54,7 @@ numbered_in (x ∷ l) (suc i) c f v e = go (numbered_in l i c f v e)
     go (StoreIn.pends d k h) = StoreIn.pends d (Memᴰ.tail k) h
 
 in_numbered : (l : List Entry) (e : Entry) → Memᴰ e l → (i : ℕ) × (get_or l i no_entry ≡ e)
+in_numbered [] e x' = elim x' [ ]
 in_numbered (x ∷ l) e (Memᴰ.head z) = (0, sym z)
 in_numbered (x ∷ l) e (Memᴰ.tail j) = let k = in_numbered l e j in (suc k.0, k.1)
 
