@@ -1,6 +1,6 @@
 -- R-6: "the look that serves all reads is to say whether it saw the reader's own pending store or memory, with the
 -- place in the buffer, oldest counted as 0". Assumes nothing.
-use Rattle.std.specs.Prelude.{◌≡◌, true, false, ◌↔◌, ℕ, zero, suc, ◌+◌, ◌<◌, ltb, length, get_or}
+use Rattle.std.specs.Prelude.{◌≡◌, ◌↔◌, ℕ, suc, ◌+◌, ◌<◌, ltb, length, get_or}
 use mathlib.Core.List.{List, [], ◌∷◌, Memᴰ}
 use Rattle.base.specs.Pick.{pick}
 use Rattle.buffers.specs.declared.Spot.{Spot}

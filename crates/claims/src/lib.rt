@@ -1,3 +1,2 @@
 // What holds of every state that a run reaches.
 #![tactic(auto)]
-

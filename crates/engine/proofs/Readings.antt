@@ -20,7 +20,6 @@ use Rattle.buffers.specs.Sources.{source_in}
 use Rattle.memory.specs.declared.Memory.{Memory}
 use Rattle.memory.specs.declared.asks.Ask.{Ask}
 use Rattle.memory.specs.declared.asks.Ask.TheVariants as ask
-use Rattle.memory.specs.declared.asks.Change.TheVariants as change
 use Rattle.memory.specs.Memories.{buffer_of}
 use Rattle.memory.specs.Asks.{looked_of, swept_sight, sight_of}
 use Rattle.memory.proofs.Sights.{look_swept_no}
@@ -30,7 +29,7 @@ use Rattle.state.specs.declared.State.{State}
 use Rattle.state.specs.declared.Choice.{Choice}
 use Rattle.state.specs.declared.Answer.{Answer}
 use Rattle.state.specs.Codes.{top, store_mark_old, store_mark_y, store_write, noop_fence, noop_finish, roots_fence, roots_mark, roots_finish, work_fence, work_finish, row1_round, row2_read, row2_write, row3_round, row4_write, row4_round, row5_phase, row5_alloc, row5_round, row6_round, row6_take, row7_first, row7_mark, row7_next, row7_drop, row8_round, row8_take, row9_write, row10_look, row10_free, row11_write, look_stage, sense_stage, phase_stage, lock_stage, again_stage, write_stage, unlock_stage, fence_stage}
-use Rattle.state.specs.States.{at, process_of, taken_of, refused_of}
+use Rattle.state.specs.States.{at, taken_of, refused_of}
 use Rattle.formed.specs.Fits.{WellFormed}
 use Rattle.marking.specs.Marks.{is_site_of, names_root_of, marked_cell, stage_ask_of, mark_ask}
 use Rattle.mutator.specs.Mutators.{top_ask_of, mutator_ask}
@@ -43,7 +42,7 @@ use Rattle.model.specs.Rows as row
 use Rattle.model.specs.Rows.{Row}
 use Rattle.model.proofs.Standing.{place_same}
 use Rattle.model.proofs.Rounds.{from}
-use Rattle.engine.specs.Steps.{ask_of, inner_of, step_of}
+use Rattle.engine.specs.Steps.{ask_of, inner_of}
 use Rattle.engine.specs.Readings.{read_by, ReadFrom, reading, sweeping, nothing, ReadTold, ReadOne}
 use Rattle.engine.proofs.InPlace.{number_of, step_refused, step_unseen}
 use Rattle.engine.proofs.Located.{collecting, mutating}

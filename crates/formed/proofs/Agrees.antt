@@ -21,7 +21,7 @@ use Rattle.state.specs.declared.Process.{Process}
 use Rattle.state.specs.Codes.{top, work_finish, row1_round, row11_write, no_stage, look_stage, phase_stage, poll_stage}
 use Rattle.state.specs.States.{no_part, no_process, phase_number}
 use Rattle.formed.specs.Uses.{row, no_notes, of_store, a_cell, nothing_left, cells_left, fields_left, unstaged, of_old, of_y, of_cell, of_named, nothing_row, round_row, uses_of}
-use Rattle.formed.specs.Fits.{Unnoted, Unmarked, Idle, StoreMark, RootsFirst, RootsRest, MutatorAt, idle, mark_old, mark_y, write, roots_first, roots_rest, MutatorFits, CollectorAt, plain, round, scan_mark, scan, drop, sweep, sweep_free, CollectorFits}
+use Rattle.formed.specs.Fits.{Unnoted, Unmarked, StoreMark, RootsFirst, RootsRest, MutatorAt, idle, mark_old, mark_y, write, roots_first, roots_rest, MutatorFits, CollectorAt, plain, round, scan_mark, scan, drop, sweep, sweep_free, CollectorFits}
 use Rattle.formed.specs.WellFormed.{no_store_of, notes_fit_of, left_fits_of, no_mark_of, mark_fits_of, named_fits_of, round_fits_of, stage_fits_of, place_fits_of, sense_fits_of, mutator_fits_of, no_part_of, collector_fits_of, nobody_of}
 use Rattle.formed.proofs.Columns.{late_told, late_test, store_told, store_test, NoStore, unnoted_told, unnoted_test, noted_told, noted_test, mark_told, mark_test, unmarked_told, unmarked_test, left_told, left_test, columns, joined}
 use Rattle.formed.proofs.Places.{MutatorPlace, is_idle_lem, is_mark_old, is_mark_y, is_write, is_roots, mutator_place, CollectorPlace, is_plain, is_round_lem, is_scan_mark, is_scan, is_drop, is_sweep, is_sweep_free, collector_place, uses_idle, uses_plain, uses_round, idle_mutator, is_collectors, plain_collector, round_collector}

@@ -3,19 +3,19 @@
 use mathlib.Core.Path.{◌≡◌, refl}
 use mathlib.Core.Bool.{Bool, true, false}
 use mathlib.Core.Logic.{⊎_elim}
-use Prim.Native.Nat.{ℕ, zero, suc, ◌+◌, ◌-◌, ◌≤◌, ◌<◌}
-use native.Mathlib.Decide.{ℕ_discrete, dec_lt}
+use Prim.Native.Nat.{ℕ, zero, suc, ◌-◌, ◌≤◌, ◌<◌}
+use native.Mathlib.Decide.{dec_lt}
 use native.Mathlib.Omega.{arith}
 use lib.ListN.{get_or, replicate, get_or-replicate}
-use borrow.Author.Tests.{lt-ltb, le-ltb, eq-eqb, ne_eqb}
-use Rattle.base.proofs.Lists.{beyond, length_listed, listed_at}
+use borrow.Author.Tests.{lt-ltb, le-ltb}
+use Rattle.base.proofs.Lists.{beyond}
 use Rattle.cells.specs.Sets.{member_of}
 use Rattle.cells.proofs.Belows.{below_empty, below_member, below_range, below_sub}
 use Rattle.buffers.specs.Stores.{no_entry}
 use Rattle.buffers.specs.Buffers.{max_stores, empty_buffer}
 use Rattle.buffers.specs.Fits.{entry_of}
 use Rattle.buffers.proofs.Wells.{empty_fits}
-use Rattle.memory.specs.Memories.{max_cells, max_processes, at_cell, no_buffer}
+use Rattle.memory.specs.Memories.{max_processes, no_buffer}
 use Rattle.memory_formed.specs.WellFormed.{MemoryFormed}
 use Rattle.state.specs.declared.opening.Heap.{Heap}
 use Rattle.state.specs.States.{no_process, process_of}

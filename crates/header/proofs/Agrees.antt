@@ -24,7 +24,7 @@ use Rattle.cells.proofs.Subsets.{sub_of_minus, minus_of_sub}
 use Rattle.cells.proofs.Belows.{below_none, below_of_lem}
 use Rattle.memory.specs.Memories.{max_cells, max_mutators}
 use Rattle.header.specs.Bytes.{byte_at}
-use Rattle.header.specs.Header.{max_log, letter_m, letter_g, letter_t, version1, version2, roots_size_of, most_cells_of, version_said, cells_said, mutators_said, cell_fields, cell_place_of, roots_place_of, size_of, occupied_at, field_at, roots_read, used_among, is_version_of, letters_of, counts_of, names_of, cell_said_fits_of, cell_said_at_of, roots_fit_of, roots_at_of, cells_said_fit_of, all_roots_fit_of, heap_fits_of, admitted_of}
+use Rattle.header.specs.Header.{max_log, letter_m, letter_g, letter_t, version1, version2, most_cells_of, version_said, cells_said, mutators_said, cell_fields, cell_place_of, roots_place_of, size_of, occupied_at, field_at, roots_read, used_among, is_version_of, letters_of, counts_of, names_of, cell_said_fits_of, cell_said_at_of, roots_fit_of, roots_at_of, cells_said_fit_of, all_roots_fit_of, heap_fits_of, admitted_of}
 use Rattle.header.specs.Admitted.{CellSaid, OccupiedSaid, FreeSaid, said_of, field_said, root_set, IsVersion, Admitted}
 use Rattle.header.specs.Statements.{TestedExactly}
 use Rattle.header.proofs.Used.{in_used, used_in}

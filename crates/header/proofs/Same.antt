@@ -16,7 +16,7 @@ use Rattle.base.specs.Pick.{pick, listed}
 use Rattle.base.specs.Every.{◌and◌, every}
 use Rattle.base.proofs.Picking.{pick_ind}
 use Rattle.memory.specs.Memories.{max_cells, max_mutators}
-use Rattle.header.specs.Bytes.{per_byte, byte_at, word_size, wide_size, pair_at, little_at}
+use Rattle.header.specs.Bytes.{per_byte, byte_at, pair_at, little_at}
 use Rattle.header.specs.Header.{max_log, version_place, version2, cells_place, mutators_place, heap_place, roots_size_of, version_said, cells_said, mutators_said, cell_fields, cell_place_of, roots_place_of, size_of_roots, size_of, occupied_at, field_at, roots_read, gained_of, used_among, letters_of, cell_said_at_of, roots_fit_of, roots_at_of, cells_said_fit_of, all_roots_fit_of, heap_fits_of, field_in_of, fields_of, roots_in_of, roots_of, read_heap, heap_of}
 use Rattle.header.specs.Admitted.{Admitted}
 use Rattle.header.specs.Statements.{SameHeader, HeaderDecides, CutInside}

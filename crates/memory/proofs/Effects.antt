@@ -25,7 +25,6 @@ use Rattle.base.specs.Refusals.{as_taken}
 use Rattle.cells.specs.Sets.{member_of, add_of, remove_of}
 use Rattle.cells.proofs.Members.{add_same, add_keeps, in_add, remove_gone, in_remove, remove_keeps}
 use Rattle.cells.proofs.Bools.{same_test}
-use Rattle.buffers.specs.declared.Phase.{Phase}
 use Rattle.buffers.specs.declared.Store.{Store}
 use Rattle.buffers.specs.declared.Store.TheVariants as store
 use Rattle.buffers.specs.declared.Spot.{Spot}

@@ -1,25 +1,23 @@
 -- Where a value came from: the laws of specs/Origins, proved. Assumes nothing.
 --     source_laws              own store or memory, by position in the reader's list of pending stores
 --     from_laws, swept_from_laws     what a look, and the sweep's, says of it
-use mathlib.Core.Path.{◌≡◌, refl, sym, ◌∙◌}
+use mathlib.Core.Path.{◌≡◌, refl, ◌∙◌}
 use mathlib.Core.Bool.{Bool, true, false}
-use Prim.Native.Nat.{ℕ, ◌+◌, ◌<◌}
+use Prim.Native.Nat.{ℕ, ◌<◌}
 use native.Mathlib.Omega.{arith}
 use borrow.Author.Tests.{lt-ltb}
-use Rattle.base.specs.Pick.{pick}
 use Rattle.base.specs.Refusals.{as_taken}
 use Rattle.buffers.specs.declared.Spot.{Spot}
-use Rattle.buffers.specs.declared.sources.Source.{Source}
 use Rattle.buffers.specs.declared.sources.Source.TheVariants as source
 use Rattle.buffers.specs.Buffers.{max_stores}
-use Rattle.buffers.specs.Sources.{source_in, source_number}
+use Rattle.buffers.specs.Sources.{source_in}
 use Rattle.buffers.proofs.Nearest.{own_exactly, own_value, memory_exactly, source_read}
 use Rattle.memory.specs.declared.Memory.{Memory}
 use Rattle.memory.specs.Memories.{blocked_of, there_of, stands_of}
-use Rattle.memory.specs.Looks.{look_of, source_of, from_of, swept_from_of}
+use Rattle.memory.specs.Looks.{look_of, from_of, swept_from_of}
 use Rattle.memory.specs.Views.{pending_for}
 use Rattle.memory.specs.Origins.{SourceLaws, FromLaws, SweptFromLaws}
-use Rattle.memory.proofs.Shapes.{Shaped, view_is, view_misses, pending_fits}
+use Rattle.memory.proofs.Shapes.{Shaped, view_is, pending_fits}
 use Rattle.memory.proofs.Sights.{look_no}
 use Rattle.memory.proofs.Laws.{look_laws}
 

@@ -29,7 +29,6 @@ use Rattle.base.proofs.Everies.{and_both}
 use Rattle.cells.specs.Sets.{max_set, member_of, Member, add_of, remove_of}
 use Rattle.cells.proofs.Bools.{same_test}
 use Rattle.cells.proofs.Members.{member_pos, in_add, add_same, add_keeps, in_remove, remove_keeps, remove_gone}
-use Rattle.buffers.specs.declared.Phase.{Phase}
 use Rattle.buffers.specs.declared.Store.{Store}
 use Rattle.buffers.specs.declared.Store.TheVariants as store
 use Rattle.buffers.specs.declared.Spot.{Spot}

@@ -1,17 +1,15 @@
 -- Row 7's fields. Assumes nothing.
 --     first_offers, first_leaves, mark_leaves, next_offers      the four statements of specs/Scans
-use mathlib.Core.Path.{◌≡◌, refl, sym, ap, ◌∙◌, subst}
-use mathlib.Core.Bool.{true, false, false≢true}
+use mathlib.Core.Path.{◌≡◌, refl, sym, ap, subst}
 use mathlib.Core.Logic.{◌↔◌, ⊎_elim}
 use Prim.Native.Nat.{ℕ, ◌+◌, ◌<◌}
 use native.Mathlib.Omega.{arith}
 use native.Mathlib.Decide.{dec_lt}
 use borrow.Author.Tests.{lt-ltb, le-ltb}
-use Rattle.cells.specs.Sets.{max_set, Member, remove_of}
+use Rattle.cells.specs.Sets.{Member, remove_of}
 use Rattle.cells.proofs.Bools.{not_both}
 use Rattle.cells.proofs.Members.{member_null, in_remove, remove_keeps, full_has}
 use Rattle.buffers.specs.Fits.{max_fields}
-use Rattle.memory.specs.Memories.{max_processes}
 use Rattle.state.specs.declared.RoundType.{RoundType}
 use Rattle.state.specs.declared.Process.{Process}
 use Rattle.state.specs.declared.State.{State}
@@ -19,7 +17,6 @@ use Rattle.state.specs.declared.Choice.{Choice}
 use Rattle.state.specs.Codes.{row6_take, row7_first, row8_take, no_stage}
 use Rattle.state.specs.States.{process_of, with_process_of}
 use Rattle.state.specs.Choices.{all_fields, field_left_of}
-use Rattle.formed.specs.Fits.{WellFormed}
 use Rattle.formed.proofs.Keeps.{process_same}
 use Rattle.model.specs.Offers.{AmongOffered, offer_of}
 use Rattle.model.specs.Offers as offer

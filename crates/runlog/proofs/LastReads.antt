@@ -5,12 +5,12 @@
 use mathlib.Core.Path.{◌≡◌, refl, sym, ap, ◌∙◌, subst}
 use mathlib.Core.Bool.{Bool, true, false, false≢true}
 use mathlib.Core.List.{List}
-use Prim.Native.Nat.{ℕ, zero, suc, ◌<◌}
+use Prim.Native.Nat.{ℕ, suc, ◌<◌}
 use native.Mathlib.Decide.{dec_lt, ℕ_discrete}
 use native.Mathlib.Omega.{arith}
 use Rattle.buffers.specs.declared.sources.Source.{Source}
 use Rattle.buffers.specs.declared.sources.Source.TheVariants as source
-use Rattle.buffers.specs.Sources.{nothing_read, source_number, read_after}
+use Rattle.buffers.specs.Sources.{source_number, read_after}
 use Rattle.state.specs.declared.State.{State}
 use Rattle.engine.specs.Readings.{read_by, ReadFrom}
 use Rattle.engine.proofs.Readings.{read_told, read_one}

@@ -18,7 +18,7 @@ use Rattle.header.proofs.Written.{written_size, written_admitted, written_said, 
 use Rattle.runlog.specs.declared.run.Run.{Run}
 use Rattle.runlog.specs.Records.{record_size, check_place, choice_at, record_at}
 use Rattle.runlog.specs.Runs.{run_through, onward_of, closed_of, played_of, outcome_told_of}
-use Rattle.runlog.specs.Statements.{after_of, ran_of, SameRecords, SameRun, RecordsDecide, VersionsAlike}
+use Rattle.runlog.specs.Statements.{after_of, ran_of, SameRecords, RecordsDecide, VersionsAlike}
 use Rattle.runlog.proofs.Exacts.{judge_admitted}
 
 module _ (a b : List ℕ) (s : SameRecords a b) where

@@ -2,10 +2,9 @@
 --     deed_spares      a step that is offered reads occupied cells only
 --     never_free       no choice is answered by 11
 use mathlib.Core.Path.{◌≡◌, refl, sym, ap, subst}
-use mathlib.Core.Bool.{true, false, false≢true, ◌||◌}
+use mathlib.Core.Bool.{true, false≢true, ◌||◌}
 use mathlib.Core.Logic.{◌⊎◌, inl, inr, ⊎_elim, by_cases}
 use mathlib.Core.List.Memᴰ
-use mathlib.Core.List.{List}
 use Prim.Native.Nat.{ℕ, ◌≤◌, ◌<◌}
 use native.Mathlib.Omega.{arith}
 use native.Mathlib.Decide.{ℕ_discrete, dec_lt}

@@ -1,3 +1,2 @@
 // No live cell is handed back.
 #![tactic(auto)]
-

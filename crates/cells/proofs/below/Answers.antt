@@ -1,5 +1,4 @@
 -- `cells::below` meets its contract. Assumes nothing.
-use borrow.Author.Rules.{rules}
 use borrow.Author.Tests.{lt-ltb}
 use mathlib.Core.Path.{sym}
 use native.Mathlib.Nat.{lt_of_lt_of_le}

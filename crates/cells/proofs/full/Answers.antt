@@ -1,5 +1,4 @@
 -- `cells::full` meets its contract. Assumes nothing.
-use borrow.Author.Rules.{rules}
 use mathlib.Core.Path.{◌≡◌}
 use native.Mathlib.Omega.{arith}
 use Prim.Native.Nat.{min}

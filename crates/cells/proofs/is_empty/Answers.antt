@@ -1,5 +1,4 @@
 -- `cells::is_empty` meets its contract. Assumes nothing.
-use borrow.Author.Rules.{rules}
 use Rattle.cells.specs.Sets.{is_none}
 use Rattle.cells.proofs.is_empty.Goals as goal
 

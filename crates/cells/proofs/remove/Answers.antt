@@ -1,5 +1,4 @@
 -- `cells::remove` meets its contract. Assumes nothing.
-use borrow.Author.Rules.{rules}
 use mathlib.Core.Path.{sym}
 use Rattle.cells.specs.Sets.{remove_of}
 use Rattle.cells.proofs.Members.{remove_above}

@@ -1,5 +1,4 @@
 -- `claysaucer::claysaucer_judge` meets its contract: what it packs is the outcome of the log.
-use borrow.Author.Rules.{rules}
 use Rattle.claysaucer.proofs.claysaucer_judge.Goals as goal
 
 pub returns : goal.returns

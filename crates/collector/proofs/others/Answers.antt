@@ -1,5 +1,4 @@
 use mathlib.Core.Path.{ap, ◌∙◌}
-use borrow.Author.Rules.{rules}
 use Rattle.cells.specs.Sets.{remove_of}
 use Rattle.collector.specs.Collectors.{others_of}
 use Rattle.collector.proofs.others.Goals as goal

@@ -1,4 +1,3 @@
-use mathlib.Core.Logic.{⊎_elim}
 use borrow.Author.Rules.{rules}
 use Rattle.base.proofs.Picks.{picks}
 use Rattle.collector.specs.Collectors.{row_offers_of}
@@ -28,5 +27,6 @@ returns-in-32-to-255 c = search (rules, picks, c.in-32-to-255.if-place-lt32-own.
 pub returns-in-11-to-31 : goal.returns-in-11-to-31
 unfolding row_offers_of
 returns-in-11-to-31 c = elim c.in-11-to-31-1.branch [
-      in-23-1 w ↦ simp w.in-23-1.keys4 c.blank.ensures
-    | in_default+else-place-lt11+then-place-lt32 w ↦ rw (← c.blank.ensures) (search (rules, picks, w.if-place-lt32-1.true, w.if-place-lt11-1.false, w.in_default-1.rest.1, w.in_default-1.rest.0.1, w.in_default-1.rest.0.0.1, w.in_default-1.rest.0.0.0.1) depth 16) ]
+  | in-23-1 w ↦ simp w.in-23-1.keys4 c.blank.ensures
+  | in_default+else-place-lt11+then-place-lt32 w ↦ rw (← c.blank.ensures) (search (rules, picks, w.if-place-lt32-1.true, w.if-place-lt11-1.false, w.in_default-1.rest.1, w.in_default-1.rest.0.1, w.in_default-1.rest.0.0.1, w.in_default-1.rest.0.0.0.1) depth 16)
+]

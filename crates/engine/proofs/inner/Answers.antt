@@ -1,5 +1,4 @@
 use mathlib.Core.Path.{sym, ap, ◌∙◌}
-use borrow.Author.Rules.{rules}
 use Rattle.memory.proofs.Effects.{is_taken}
 use Rattle.state.specs.declared.acts.Setting.{Setting}
 use Rattle.state.specs.States.{taken_of}

@@ -1,13 +1,11 @@
 -- `memory_formed::buffers_fit` meets its contract: after p turns of the loop the buffers of the processes below p fit.
 -- Assumes nothing.
 use mathlib.Core.Bool.{true}
-use mathlib.Core.Path.{◌≡◌, refl}
+use mathlib.Core.Path.{◌≡◌}
 use Prim.Native.Nat.{◌≤◌, ◌-◌}
-use borrow.Author.Rules.{rules}
 use Rattle.base.specs.Every.{every}
-use Rattle.base.proofs.Everies.{every_more, every_fails, every_done}
 use Rattle.memory.specs.Memories.{max_processes}
-use Rattle.memory_formed.specs.WellFormed.{buffer_at_of, buffers_fit_of}
+use Rattle.memory_formed.specs.WellFormed.{buffer_at_of}
 use Rattle.memory_formed.proofs.buffers_fit.Given as goal
 
 abbrev pub invariant-loop-p : goal.invariant-loop-p

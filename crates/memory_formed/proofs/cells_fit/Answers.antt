@@ -1,9 +1,6 @@
 -- `memory_formed::cells_fit` meets its contract: after i turns of the loop the cells 1 to i fit. Assumes nothing.
-use mathlib.Core.Bool.{true}
-use mathlib.Core.Path.{◌≡◌, refl}
-use Prim.Native.Nat.{◌≤◌, ◌-◌}
+use mathlib.Core.Path.{refl}
 use borrow.Author.Rules.{rules}
-use Rattle.base.specs.Every.{every}
 use Rattle.base.proofs.Everies.{every_more, every_fails, every_done}
 use Rattle.memory.specs.Memories.{max_cells}
 use Rattle.memory_formed.specs.WellFormed.{cell_at_of, cells_fit_of}

@@ -1,6 +1,5 @@
 -- `reach::follow` meets its contract. Assumes nothing.
 use mathlib.Core.Path.{ap, ap₂, ◌∙◌}
-use borrow.Author.Rules.{rules}
 use Rattle.cells.specs.Sets.{add_of}
 use Rattle.reach.proofs.follow.Goals as goal
 

@@ -1,11 +1,9 @@
 -- `reach::reached` meets its contract: the loop ends with exactly the cells met, and only one set has them. Assumes
 -- nothing.
 use mathlib.Core.Path.{sym, ◌∙◌}
-use borrow.Author.Rules.{rules}
-use borrow.Author.Tests.{not-true, not-false}
 use Rattle.reach.specs.Reach.{reached_of}
 use Rattle.reach.proofs.Closures.{met_once, reached_met}
-use Rattle.reach.proofs.Walks.{Walking, walking_start, walking_next, walking_less, walking_end}
+use Rattle.reach.proofs.Walks.{walking_start, walking_next, walking_less, walking_end}
 use Rattle.reach.proofs.reached.Goals as goal
 
 pub loop-m-init : goal.loop-m-init

@@ -1,6 +1,5 @@
 -- `reach::walked` meets its contract. Assumes nothing.
 use mathlib.Core.Path.{ap, ◌∙◌}
-use borrow.Author.Rules.{rules}
 use Rattle.cells.specs.Sets.{inter_of}
 use Rattle.reach.proofs.walked.Goals as goal
 

@@ -1,6 +1,5 @@
 -- `runlog::judge` meets its contract.
 use mathlib.Core.Path.{refl, ◌∙◌}
-use borrow.Author.Rules.{rules}
 use Rattle.header.proofs.Opens.{open_yes, long_enough, not_long}
 use Rattle.runlog.proofs.Judges.{judge_shut, judge_open}
 use Rattle.runlog.proofs.judge.Goals as goal

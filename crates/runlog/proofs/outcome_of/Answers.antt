@@ -1,6 +1,5 @@
 -- `runlog::outcome_of` meets its contract.
 use mathlib.Core.Path.{refl}
-use borrow.Author.Rules.{rules}
 use Rattle.runlog.specs.Runs.{outcome_told_of}
 use Rattle.runlog.proofs.outcome_of.Goals as goal
 

@@ -1,5 +1,4 @@
 -- `buffers::Buffer::empty` meets its contract. Assumes nothing.
-use borrow.Author.Rules.{rules}
 use Rattle.buffers.proofs.Buffer.empty.Goals as goal
 
 pub returns : goal.returns

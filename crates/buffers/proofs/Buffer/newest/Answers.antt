@@ -1,9 +1,7 @@
 -- `buffers::Buffer::newest` meets its contract: after i turns of the loop it has found the newest among the first i
 -- entries. Assumes nothing.
-use Prim.Native.Nat.{◌≤◌, ◌-◌, min}
 use native.Mathlib.Omega.{arith}
-use mathlib.Core.Path.{◌≡◌, ◌∙◌, ap}
-use lib.ListN.{length, take}
+use mathlib.Core.Path.{◌∙◌, ap}
 use borrow.Author.Rules.{rules}
 use Rattle.base.proofs.Lists.{carried, take_clamped, through_more}
 use Rattle.buffers.specs.Stores.{no_entry}

@@ -1,14 +1,9 @@
 -- `buffers::Buffer::newest` meets its contract: after i turns of the loop it has found the newest among the first i
 -- entries. Assumes nothing.
 use Prim.Native.Nat.{◌≤◌, ◌-◌, min}
-use native.Mathlib.Omega.{arith}
-use mathlib.Core.Path.{◌≡◌, ◌∙◌, ap}
+use mathlib.Core.Path.{◌≡◌}
 use lib.ListN.{length, take}
-use borrow.Author.Rules.{rules}
-use Rattle.base.proofs.Lists.{carried, take_clamped, through_more}
-use Rattle.buffers.specs.Stores.{no_entry}
-use Rattle.buffers.specs.Buffers.{max_stores, newest_of, newer_of}
-use Rattle.buffers.specs.declared.Newest.TheVariants.{Nothing}
+use Rattle.buffers.specs.Buffers.{max_stores, newest_of}
 use Rattle.buffers.proofs.Buffer.newest.Given as goal
 
 abbrev pub invariant-loop-i : goal.invariant-loop-i

@@ -1,14 +1,10 @@
 -- `buffers::Buffer::pop` meets its contract: after i turns of the loop the first i entries are those one place up.
 -- Assumes nothing.
 use Prim.Native.Nat.{◌≤◌, ◌-◌}
-use native.Mathlib.Omega.{arith}
 use mathlib.Core.Path.{◌≡◌}
 use lib.ListN.{length}
-use borrow.Author.Rules.{rules}
-use borrow.Author.Tests.{eq-eqb, ne_eqb}
-use Rattle.base.proofs.Lists.{carried, moved, moved_again, moved_end}
-use Rattle.buffers.specs.Stores.{no_entry}
-use Rattle.buffers.specs.Buffers.{max_stores, pop_of}
+use Rattle.base.proofs.Lists.{moved}
+use Rattle.buffers.specs.Buffers.{max_stores}
 use Rattle.buffers.proofs.Buffer.pop.Given as goal
 
 abbrev pub invariant-loop-i : goal.invariant-loop-i

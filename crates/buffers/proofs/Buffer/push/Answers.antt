@@ -1,5 +1,4 @@
 -- `buffers::Buffer::push` meets its contract. Assumes nothing.
-use borrow.Author.Rules.{rules}
 use borrow.Author.Tests.{le-leb, lt-leb}
 use Rattle.buffers.specs.Buffers.{push_of}
 use Rattle.buffers.proofs.Buffer.push.Goals as goal

@@ -1,14 +1,10 @@
 -- `buffers::Buffer::source` meets its contract: after i turns of the loop it has found the newest among the first i
 -- entries. Assumes nothing.
 use Prim.Native.Nat.{◌≤◌, ◌-◌, min}
-use native.Mathlib.Omega.{arith}
-use mathlib.Core.Path.{◌≡◌, ◌∙◌, ap}
+use mathlib.Core.Path.{◌≡◌}
 use lib.ListN.{length, take}
-use borrow.Author.Rules.{rules}
-use Rattle.base.proofs.Lists.{carried, take_clamped}
 use Rattle.buffers.specs.Buffers.{max_stores}
 use Rattle.buffers.specs.Sources.{source_in}
-use Rattle.buffers.proofs.Nearest.{source_more}
 use Rattle.buffers.proofs.Buffer.source.Given as goal
 
 abbrev pub invariant-loop-i : goal.invariant-loop-i

@@ -1,12 +1,9 @@
 -- `buffers::Buffer::well_formed` meets its contract: after i turns of the loop the first i entries fit. Assumes
 -- nothing.
-use mathlib.Core.Bool.{true}
 use mathlib.Core.Path.{◌≡◌, refl}
-use Prim.Native.Nat.{◌≤◌, ◌-◌}
 use lib.ListN.{length}
 use borrow.Author.Rules.{rules}
 use borrow.Author.Tests.{le-leb, lt-leb, eq-eqb}
-use Rattle.base.specs.Every.{every}
 use Rattle.base.proofs.Everies.{every_more, every_fails, every_done}
 use Rattle.base.proofs.Lists.{carried}
 use Rattle.buffers.specs.Buffers.{max_stores}

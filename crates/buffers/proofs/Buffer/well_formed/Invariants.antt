@@ -1,16 +1,12 @@
 -- `buffers::Buffer::well_formed` meets its contract: after i turns of the loop the first i entries fit. Assumes
 -- nothing.
 use mathlib.Core.Bool.{true}
-use mathlib.Core.Path.{◌≡◌, refl}
+use mathlib.Core.Path.{◌≡◌}
 use Prim.Native.Nat.{◌≤◌, ◌-◌}
 use lib.ListN.{length}
-use borrow.Author.Rules.{rules}
-use borrow.Author.Tests.{le-leb, lt-leb, eq-eqb}
 use Rattle.base.specs.Every.{every}
-use Rattle.base.proofs.Everies.{every_more, every_fails, every_done}
-use Rattle.base.proofs.Lists.{carried}
 use Rattle.buffers.specs.Buffers.{max_stores}
-use Rattle.buffers.specs.Fits.{entry_at_of, buffer_fits_of}
+use Rattle.buffers.specs.Fits.{entry_at_of}
 use Rattle.buffers.proofs.Buffer.well_formed.Given as goal
 
 abbrev pub invariant-loop-i : goal.invariant-loop-i

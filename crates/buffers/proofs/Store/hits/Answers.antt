@@ -1,5 +1,4 @@
 -- `buffers::Store::hits` meets its contract. Assumes nothing.
-use borrow.Author.Rules.{rules}
 use Rattle.buffers.specs.Stores.{hits_of}
 use Rattle.buffers.proofs.Store.hits.Goals as goal
 

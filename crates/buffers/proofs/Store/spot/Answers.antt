@@ -1,5 +1,4 @@
 -- `buffers::Store::spot` meets its contract. Assumes nothing.
-use borrow.Author.Rules.{rules}
 use Rattle.buffers.proofs.Store.spot.Goals as goal
 
 pub returns-in-Mark : goal.returns-in-Mark

@@ -1,11 +1,7 @@
 -- `formed::processes::procs_fit` meets its contract: after p turns of the loop the first p processes fit.
-use mathlib.Core.Bool.{true}
-use mathlib.Core.Path.{◌≡◌, refl}
-use Prim.Native.Nat.{◌≤◌, ◌-◌}
-use lib.ListN.{length}
+use mathlib.Core.Path.{refl}
 use borrow.Author.Rules.{rules}
 use borrow.Author.Tests.{eq-eqb}
-use Rattle.base.specs.Every.{every}
 use Rattle.base.proofs.Everies.{every_more, every_fails, every_done}
 use Rattle.base.proofs.Lists.{carried}
 use Rattle.memory.specs.Memories.{max_processes}

@@ -1,15 +1,11 @@
 -- `formed::processes::procs_fit` meets its contract: after p turns of the loop the first p processes fit.
 use mathlib.Core.Bool.{true}
-use mathlib.Core.Path.{◌≡◌, refl}
+use mathlib.Core.Path.{◌≡◌}
 use Prim.Native.Nat.{◌≤◌, ◌-◌}
 use lib.ListN.{length}
-use borrow.Author.Rules.{rules}
-use borrow.Author.Tests.{eq-eqb}
 use Rattle.base.specs.Every.{every}
-use Rattle.base.proofs.Everies.{every_more, every_fails, every_done}
-use Rattle.base.proofs.Lists.{carried}
 use Rattle.memory.specs.Memories.{max_processes}
-use Rattle.formed.specs.WellFormed.{process_at, procs_fit_of}
+use Rattle.formed.specs.WellFormed.{process_at}
 use Rattle.formed.proofs.processes.procs_fit.Given as goal
 
 abbrev pub invariant-loop-p : goal.invariant-loop-p

@@ -1,10 +1,7 @@
 -- `formed::values::fields_fit` meets its contract: after i turns of the loop the first i values fit.
-use mathlib.Core.Bool.{true}
-use mathlib.Core.Path.{◌≡◌, refl}
-use Prim.Native.Nat.{◌≤◌, ◌-◌}
+use mathlib.Core.Path.{refl}
 use borrow.Author.Rules.{rules}
 use borrow.Author.Tests.{le-leb, lt-leb}
-use Rattle.base.specs.Every.{every}
 use Rattle.base.proofs.Everies.{every_more, every_fails, every_done}
 use Rattle.memory.specs.Memories.{max_cells}
 use Rattle.formed.specs.WellFormed.{field_fits_at, fields_fit_of}

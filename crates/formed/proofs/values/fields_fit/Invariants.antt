@@ -1,13 +1,10 @@
 -- `formed::values::fields_fit` meets its contract: after i turns of the loop the first i values fit.
 use mathlib.Core.Bool.{true}
-use mathlib.Core.Path.{◌≡◌, refl}
+use mathlib.Core.Path.{◌≡◌}
 use Prim.Native.Nat.{◌≤◌, ◌-◌}
-use borrow.Author.Rules.{rules}
-use borrow.Author.Tests.{le-leb, lt-leb}
 use Rattle.base.specs.Every.{every}
-use Rattle.base.proofs.Everies.{every_more, every_fails, every_done}
 use Rattle.memory.specs.Memories.{max_cells}
-use Rattle.formed.specs.WellFormed.{field_fits_at, fields_fit_of}
+use Rattle.formed.specs.WellFormed.{field_fits_at}
 use Rattle.formed.proofs.values.fields_fit.Given as goal
 
 abbrev pub invariant-loop-i : goal.invariant-loop-i

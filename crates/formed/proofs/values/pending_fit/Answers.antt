@@ -1,9 +1,6 @@
 -- `formed::values::pending_fit` meets its contract: after p turns of the loop the values of the first p buffers fit.
-use mathlib.Core.Bool.{true}
-use mathlib.Core.Path.{◌≡◌, refl}
-use Prim.Native.Nat.{◌≤◌, ◌-◌}
+use mathlib.Core.Path.{refl}
 use borrow.Author.Rules.{rules}
-use Rattle.base.specs.Every.{every}
 use Rattle.base.proofs.Everies.{every_more, every_fails, every_done}
 use Rattle.memory.specs.Memories.{max_processes}
 use Rattle.formed.specs.WellFormed.{buffer_fits_at, pending_fit_of}

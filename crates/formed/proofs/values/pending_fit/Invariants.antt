@@ -1,12 +1,10 @@
 -- `formed::values::pending_fit` meets its contract: after p turns of the loop the values of the first p buffers fit.
 use mathlib.Core.Bool.{true}
-use mathlib.Core.Path.{◌≡◌, refl}
+use mathlib.Core.Path.{◌≡◌}
 use Prim.Native.Nat.{◌≤◌, ◌-◌}
-use borrow.Author.Rules.{rules}
 use Rattle.base.specs.Every.{every}
-use Rattle.base.proofs.Everies.{every_more, every_fails, every_done}
 use Rattle.memory.specs.Memories.{max_processes}
-use Rattle.formed.specs.WellFormed.{buffer_fits_at, pending_fit_of}
+use Rattle.formed.specs.WellFormed.{buffer_fits_at}
 use Rattle.formed.proofs.values.pending_fit.Given as goal
 
 abbrev pub invariant-loop-p : goal.invariant-loop-p

@@ -1,11 +1,8 @@
 -- `formed::values::stores_fit` meets its contract: after i turns of the loop the values of the first i entries fit.
-use mathlib.Core.Bool.{true}
-use mathlib.Core.Path.{◌≡◌, refl}
-use Prim.Native.Nat.{◌≤◌, ◌-◌}
+use mathlib.Core.Path.{refl}
 use lib.Dec.{leb}
 use borrow.Author.Rules.{rules}
 use borrow.Author.Tests.{le-leb, lt-leb}
-use Rattle.base.specs.Every.{every}
 use Rattle.base.proofs.Everies.{every_more, every_fails, every_done}
 use Rattle.buffers.specs.Buffers.{max_stores}
 use Rattle.formed.specs.WellFormed.{store_fits_at, stores_fit_of}

@@ -1,14 +1,10 @@
 -- `formed::values::stores_fit` meets its contract: after i turns of the loop the values of the first i entries fit.
 use mathlib.Core.Bool.{true}
-use mathlib.Core.Path.{◌≡◌, refl}
+use mathlib.Core.Path.{◌≡◌}
 use Prim.Native.Nat.{◌≤◌, ◌-◌}
-use lib.Dec.{leb}
-use borrow.Author.Rules.{rules}
-use borrow.Author.Tests.{le-leb, lt-leb}
 use Rattle.base.specs.Every.{every}
-use Rattle.base.proofs.Everies.{every_more, every_fails, every_done}
 use Rattle.buffers.specs.Buffers.{max_stores}
-use Rattle.formed.specs.WellFormed.{store_fits_at, stores_fit_of}
+use Rattle.formed.specs.WellFormed.{store_fits_at}
 use Rattle.formed.proofs.values.stores_fit.Given as goal
 
 abbrev pub invariant-loop-i : goal.invariant-loop-i

@@ -3,7 +3,6 @@ use Prim.Native.Nat.{ℕ}
 use mathlib.Core.Path.{refl}
 use lib.ListN.{length}
 use Rattle.base.proofs.Lists.{past}
-use borrow.Author.Rules.{rules}
 use Rattle.header.proofs.bytes.byte.Goals as goal
 
 pub returns : goal.returns

@@ -1,5 +1,4 @@
 -- `header::bytes::wide` meets its contract.
-use borrow.Author.Rules.{rules}
 use Rattle.header.proofs.Littles.{wide_little}
 use Rattle.header.proofs.bytes.wide.Goals as goal
 

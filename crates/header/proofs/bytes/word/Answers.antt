@@ -1,5 +1,4 @@
 -- `header::bytes::word` meets its contract.
-use borrow.Author.Rules.{rules}
 use Rattle.header.proofs.Littles.{quad_little}
 use Rattle.header.proofs.bytes.word.Goals as goal
 

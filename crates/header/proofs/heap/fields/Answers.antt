@@ -1,9 +1,7 @@
 -- `header::heap::fields` meets its contract: after i turns of the loop the first i fields are read.
-use Prim.Native.Nat.{◌≤◌, ◌-◌}
 use mathlib.Core.Path.{◌≡◌, refl}
 use native.Mathlib.Omega.{arith}
-use lib.ListN.{length, take, length-set}
-use Rattle.base.specs.Pick.{listed}
+use lib.ListN.{length-set}
 use Rattle.base.proofs.Lists.{listed_more, listed_end}
 use Rattle.memory.specs.Memories.{max_cells}
 use borrow.Author.Rules.{rules}

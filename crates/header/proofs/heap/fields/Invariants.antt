@@ -1,13 +1,10 @@
 -- `header::heap::fields` meets its contract: after i turns of the loop the first i fields are read.
 use Prim.Native.Nat.{◌≤◌, ◌-◌}
-use mathlib.Core.Path.{◌≡◌, refl}
-use native.Mathlib.Omega.{arith}
-use lib.ListN.{length, take, length-set}
+use mathlib.Core.Path.{◌≡◌}
+use lib.ListN.{length, take}
 use Rattle.base.specs.Pick.{listed}
-use Rattle.base.proofs.Lists.{listed_more, listed_end}
 use Rattle.memory.specs.Memories.{max_cells}
-use borrow.Author.Rules.{rules}
-use Rattle.header.specs.Header.{field_in_of, fields_of}
+use Rattle.header.specs.Header.{field_in_of}
 use Rattle.header.proofs.heap.fields.Given as goal
 
 abbrev pub invariant-loop-i : goal.invariant-loop-i

@@ -1,5 +1,4 @@
 -- `header::heap::roots_at` meets its contract.
-use borrow.Author.Rules.{rules}
 use Rattle.header.proofs.Sizes.{wide_roots, word_roots}
 use Rattle.header.proofs.heap.roots_at.Goals as goal
 

@@ -1,5 +1,4 @@
 -- `header::heap::used` meets its contract: after i turns of the loop the set is that of the first i cells.
-use Prim.Native.Nat.{◌≤◌, ◌-◌}
 use mathlib.Core.Path.{◌≡◌, sym, ap, ◌∙◌}
 use native.Mathlib.Numerals.{add-one}
 use native.Mathlib.Omega.{arith}

@@ -1,10 +1,7 @@
 -- `header::heap::used` meets its contract: after i turns of the loop the set is that of the first i cells.
 use Prim.Native.Nat.{◌≤◌, ◌-◌}
-use mathlib.Core.Path.{◌≡◌, sym, ap, ◌∙◌}
-use native.Mathlib.Numerals.{add-one}
-use native.Mathlib.Omega.{arith}
+use mathlib.Core.Path.{◌≡◌}
 use Rattle.header.specs.Header.{used_among}
-use borrow.Author.Rules.{rules}
 use Rattle.header.proofs.heap.used.Given as goal
 
 abbrev pub invariant-loop-i : goal.invariant-loop-i

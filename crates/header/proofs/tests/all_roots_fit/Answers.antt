@@ -1,9 +1,5 @@
 -- `header::tests::all_roots_fit` meets its contract: after k turns of the loop the first k root sets fit.
-use Prim.Native.Nat.{◌≤◌, ◌-◌}
-use mathlib.Core.Bool.{true}
-use mathlib.Core.Path.{◌≡◌, refl, ap, ◌∙◌}
-use borrow.Author.Tests.{not-true, not-false}
-use Rattle.base.specs.Every.{every}
+use mathlib.Core.Path.{refl, ap, ◌∙◌}
 use Rattle.base.proofs.Everies.{every_more, every_fails, every_done}
 use borrow.Author.Rules.{rules}
 use Rattle.header.specs.Header.{roots_fit_of, roots_at_of, all_roots_fit_of}

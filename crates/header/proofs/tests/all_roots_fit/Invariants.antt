@@ -1,12 +1,9 @@
 -- `header::tests::all_roots_fit` meets its contract: after k turns of the loop the first k root sets fit.
 use Prim.Native.Nat.{◌≤◌, ◌-◌}
 use mathlib.Core.Bool.{true}
-use mathlib.Core.Path.{◌≡◌, refl, ap, ◌∙◌}
-use borrow.Author.Tests.{not-true, not-false}
+use mathlib.Core.Path.{◌≡◌}
 use Rattle.base.specs.Every.{every}
-use Rattle.base.proofs.Everies.{every_more, every_fails, every_done}
-use borrow.Author.Rules.{rules}
-use Rattle.header.specs.Header.{roots_fit_of, roots_at_of, all_roots_fit_of}
+use Rattle.header.specs.Header.{roots_at_of}
 use Rattle.header.proofs.tests.all_roots_fit.Given as goal
 
 abbrev pub invariant-loop-k : goal.invariant-loop-k

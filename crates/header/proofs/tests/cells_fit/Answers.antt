@@ -1,9 +1,5 @@
 -- `header::tests::cells_fit` meets its contract: after i turns of the loop the first i cells fit.
-use Prim.Native.Nat.{◌≤◌, ◌-◌}
-use mathlib.Core.Bool.{true}
-use mathlib.Core.Path.{◌≡◌, refl}
-use borrow.Author.Tests.{not-true, not-false}
-use Rattle.base.specs.Every.{every}
+use mathlib.Core.Path.{refl}
 use Rattle.base.proofs.Everies.{every_more, every_fails, every_done}
 use borrow.Author.Rules.{rules}
 use Rattle.header.specs.Header.{cell_said_at_of, cells_said_fit_of}

@@ -1,12 +1,9 @@
 -- `header::tests::cells_fit` meets its contract: after i turns of the loop the first i cells fit.
 use Prim.Native.Nat.{◌≤◌, ◌-◌}
 use mathlib.Core.Bool.{true}
-use mathlib.Core.Path.{◌≡◌, refl}
-use borrow.Author.Tests.{not-true, not-false}
+use mathlib.Core.Path.{◌≡◌}
 use Rattle.base.specs.Every.{every}
-use Rattle.base.proofs.Everies.{every_more, every_fails, every_done}
-use borrow.Author.Rules.{rules}
-use Rattle.header.specs.Header.{cell_said_at_of, cells_said_fit_of}
+use Rattle.header.specs.Header.{cell_said_at_of}
 use Rattle.header.proofs.tests.cells_fit.Given as goal
 
 abbrev pub invariant-loop-i : goal.invariant-loop-i

@@ -1,5 +1,4 @@
 -- `memory::Memory::apply` meets its contract. Assumes nothing.
-use borrow.Author.Rules.{rules}
 use Rattle.memory.specs.Memories.{applied_of}
 use Rattle.memory.proofs.Memory.apply.Goals as goal
 

@@ -1,4 +1,3 @@
-use borrow.Author.Rules.{rules}
 use Rattle.memory.proofs.Memory.done.Goals as goal
 
 pub returns-in-Write : goal.returns-in-Write

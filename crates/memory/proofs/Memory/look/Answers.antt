@@ -1,7 +1,5 @@
 -- `memory::Memory::look` meets its contract. Assumes nothing.
-use mathlib.Core.Path.{◌∙◌, sym, refl}
-use borrow.Author.Rules.{rules}
-use Rattle.base.proofs.Picks.{picks}
+use mathlib.Core.Path.{◌∙◌, refl}
 use Rattle.memory.specs.Looks.{look_of, from_of, read_of}
 use Rattle.memory.proofs.Sights.{source_by_lem}
 use Rattle.memory.proofs.Memory.look.Goals as goal

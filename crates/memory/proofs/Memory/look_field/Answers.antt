@@ -1,5 +1,4 @@
 -- `memory::Memory::look_field` meets its contract. Assumes nothing.
-use borrow.Author.Rules.{rules}
 use Rattle.memory.specs.Looks.{look_field_of, read_of, read_field_of}
 use Rattle.memory.proofs.Memory.look_field.Goals as goal
 

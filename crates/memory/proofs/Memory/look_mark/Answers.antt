@@ -1,5 +1,4 @@
 -- `memory::Memory::look_mark` meets its contract. Assumes nothing.
-use borrow.Author.Rules.{rules}
 use Rattle.memory.specs.Looks.{look_mark_of, read_of, read_mark_of}
 use Rattle.memory.proofs.Memory.look_mark.Goals as goal
 

@@ -1,5 +1,4 @@
 -- `memory::Memory::look_phase` meets its contract. Assumes nothing.
-use borrow.Author.Rules.{rules}
 use Rattle.memory.specs.Looks.{look_phase_of, read_of, read_phase_of}
 use Rattle.memory.proofs.Memory.look_phase.Goals as goal
 

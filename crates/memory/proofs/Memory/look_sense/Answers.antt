@@ -1,5 +1,4 @@
 -- `memory::Memory::look_sense` meets its contract. Assumes nothing.
-use borrow.Author.Rules.{rules}
 use Rattle.memory.specs.Looks.{look_sense_of, read_of, read_sense_of}
 use Rattle.memory.proofs.Memory.look_sense.Goals as goal
 

@@ -1,6 +1,5 @@
 -- `memory::Memory::look_swept` meets its contract. Assumes nothing.
 use mathlib.Core.Path.{◌≡◌, ◌∙◌, sym, refl, ap}
-use borrow.Author.Rules.{rules}
 use borrow.Author.Tests.{eq-eqb, ne_eqb}
 use Rattle.base.specs.Refusals.{by_free}
 use Rattle.memory.specs.declared.ReadBit.{ReadBit}

@@ -1,5 +1,4 @@
 -- `memory::Memory::looked` meets its contract. Assumes nothing.
-use borrow.Author.Rules.{rules}
 use Rattle.memory.specs.Looks.{read_of}
 use Rattle.memory.specs.Asks.{looked_of}
 use Rattle.memory.proofs.Memory.looked.Goals as goal

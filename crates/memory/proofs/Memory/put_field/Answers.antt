@@ -1,6 +1,5 @@
 -- `memory::Memory::put_field` meets its contract. Assumes nothing.
 use borrow.Author.Tests.{eq-eqb, ne_eqb}
-use borrow.Author.Rules.{rules}
 use Rattle.memory.proofs.Memory.put_field.Goals as goal
 
 pub returns-then-f-eq0 : goal.returns-then-f-eq0

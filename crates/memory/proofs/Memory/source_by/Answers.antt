@@ -1,5 +1,4 @@
 -- `memory::Memory::source_by` meets its contract. Assumes nothing.
-use borrow.Author.Rules.{rules}
 use Rattle.memory.proofs.Memory.source_by.Goals as goal
 
 pub returns-in-Nothing : goal.returns-in-Nothing

@@ -1,5 +1,4 @@
 -- `memory::Memory::held` meets its contract. Assumes nothing.
-use borrow.Author.Rules.{rules}
 use Rattle.memory.specs.Memories.{stands_of}
 use Rattle.memory.proofs.Memory.stands.Goals as goal
 

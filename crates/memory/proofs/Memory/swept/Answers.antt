@@ -1,5 +1,4 @@
 -- `memory::Memory::swept` meets its contract. Assumes nothing.
-use borrow.Author.Rules.{rules}
 use Rattle.memory.specs.Looks.{read_swept_of}
 use Rattle.memory.specs.Asks.{swept_sight}
 use Rattle.memory.proofs.Memory.swept.Goals as goal

@@ -1,5 +1,4 @@
 -- `memory::Memory::with_cell` meets its contract. Assumes nothing.
-use borrow.Author.Rules.{rules}
 use Rattle.memory.proofs.Memory.with_cell.Goals as goal
 
 pub returns : goal.returns

@@ -1,5 +1,4 @@
 -- `memory::Read::refused` meets its contract. Assumes nothing.
-use borrow.Author.Rules.{rules}
 use Rattle.memory.proofs.Read.refused.Goals as goal
 
 pub returns : goal.returns

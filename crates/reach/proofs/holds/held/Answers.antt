@@ -1,5 +1,4 @@
 -- `reach::holds::held` meets its contract. Assumes nothing.
-use borrow.Author.Rules.{rules}
 use Rattle.reach.specs.Held.{held_of}
 use Rattle.reach.proofs.holds.held.Goals as goal
 

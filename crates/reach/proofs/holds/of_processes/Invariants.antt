@@ -1,17 +1,12 @@
 -- `reach::holds::of_processes` meets its contract: after i turns of the loop what the first i processes hold is
 -- there. Assumes nothing.
 use Prim.Native.Nat.{◌≤◌, ◌-◌}
-use native.Mathlib.Omega.{arith}
-use mathlib.Core.Path.{◌≡◌, ◌∙◌, ap}
+use mathlib.Core.Path.{◌≡◌}
 use lib.ListN.{length, take}
-use lib.Seq.{take_all}
-use borrow.Author.Rules.{rules}
 use Rattle.base.specs.Pick.{through}
-use Rattle.base.proofs.Lists.{carried, through_more}
 use Rattle.cells.specs.Sets.{no_cells}
 use Rattle.memory.specs.Memories.{max_processes}
-use Rattle.state.specs.States.{no_process}
-use Rattle.reach.specs.Held.{with_process_held, of_processes_of}
+use Rattle.reach.specs.Held.{with_process_held}
 use Rattle.reach.proofs.holds.of_processes.Given as goal
 
 abbrev pub invariant-loop-i : goal.invariant-loop-i

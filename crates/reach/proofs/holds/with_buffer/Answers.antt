@@ -1,9 +1,7 @@
 -- `reach::holds::with_buffer` meets its contract: after i turns of the loop what the first i entries hold is there.
 -- Assumes nothing.
-use Prim.Native.Nat.{◌≤◌, ◌-◌, min}
 use native.Mathlib.Omega.{arith}
-use mathlib.Core.Path.{◌≡◌, ◌∙◌, ap}
-use lib.ListN.{length, take}
+use mathlib.Core.Path.{◌∙◌, ap}
 use borrow.Author.Rules.{rules}
 use Rattle.base.specs.Pick.{through}
 use Rattle.base.proofs.Lists.{carried, take_clamped, through_more}

@@ -1,13 +1,9 @@
 -- `reach::holds::with_buffer` meets its contract: after i turns of the loop what the first i entries hold is there.
 -- Assumes nothing.
 use Prim.Native.Nat.{◌≤◌, ◌-◌, min}
-use native.Mathlib.Omega.{arith}
-use mathlib.Core.Path.{◌≡◌, ◌∙◌, ap}
+use mathlib.Core.Path.{◌≡◌}
 use lib.ListN.{length, take}
-use borrow.Author.Rules.{rules}
 use Rattle.base.specs.Pick.{through}
-use Rattle.base.proofs.Lists.{carried, take_clamped, through_more}
-use Rattle.buffers.specs.Stores.{no_entry}
 use Rattle.buffers.specs.Buffers.{max_stores}
 use Rattle.reach.specs.Held.{with_entry_of}
 use Rattle.reach.proofs.holds.with_buffer.Given as goal

@@ -1,5 +1,4 @@
 -- `reach::holds::with_entry` meets its contract. Assumes nothing.
-use borrow.Author.Rules.{rules}
 use Rattle.reach.proofs.holds.with_entry.Goals as goal
 
 pub returns-in-Field : goal.returns-in-Field

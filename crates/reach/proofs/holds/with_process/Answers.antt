@@ -1,5 +1,4 @@
 -- `reach::holds::with_process` meets its contract. Assumes nothing.
-use borrow.Author.Rules.{rules}
 use Rattle.reach.proofs.holds.with_process.Goals as goal
 
 pub returns : goal.returns

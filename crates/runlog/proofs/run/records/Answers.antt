@@ -1,8 +1,7 @@
 -- `runlog::run::records` meets its contract: in the loop the state, the count and the last read are those of the run of
 -- the records so far.
-use Prim.Native.Nat.{◌-◌, ◌≤◌, ◌<◌}
+use Prim.Native.Nat.{◌<◌}
 use mathlib.Core.Path.{◌≡◌, refl, sym, ap, ◌∙◌}
-use mathlib.Core.Logic.{⊎_elim}
 use mathlib.Core.List.{List}
 use native.Mathlib.Omega.{arith}
 use lib.ListN.{length, length-set}
@@ -19,7 +18,7 @@ use Rattle.state.specs.States.{with_process_of}
 use Rattle.state.specs.Acts.{shaken_of}
 use Rattle.state.proofs.Lists.{unshaken, shaken_sized, seat_small}
 use Rattle.engine.proofs.InPlace.{loop_refused, loop_read, loop_unseen, loop_unmade, loop_taken}
-use Rattle.runlog.proofs.Turns.{Ongoing, wrong_halts, refused_halts, taken_goes}
+use Rattle.runlog.proofs.Turns.{wrong_halts, refused_halts, taken_goes}
 use Rattle.runlog.proofs.run.records.Goals as goal
 use Rattle.runlog.proofs.run.records.Goals.{then-changes+else-d-ne0, else-changes, then-shakes, else-shakes}
 
@@ -106,9 +105,10 @@ bounds-state-i-in-loop-steps c =
     let s6 = c.if-shakes in
     let p4 : s4.state.procs ≡ l.state.procs = elim s4.branch [ then-changes+else-d-ne0 w ↦ ap (λ (x : State). x.procs) w.state-is | else-changes w ↦ ap (λ (x : State). x.procs) w.state-is ] in
     let p6 : s6.state.procs ≡ shaken_of s4.state.procs g.result.act =
-        elim s6.branch [
-          then-shakes w ↦ ap (λ (x : State). x.procs) w.state-is ∙ w.shaken-shaken.ensures
-        | else-shakes w ↦ ap (λ (x : State). x.procs) w.state-is ∙ sym (unshaken s4.state.procs g.result.act (sym c.shakes.ensures ∙ w.if-shakes.false)) ] in
+    elim s6.branch [
+      | then-shakes w ↦ ap (λ (x : State). x.procs) w.state-is ∙ w.shaken-shaken.ensures
+      | else-shakes w ↦ ap (λ (x : State). x.procs) w.state-is ∙ sym (unshaken s4.state.procs g.result.act (sym c.shakes.ensures ∙ w.if-shakes.false))
+    ] in
     let sized : length s6.state.procs ≡ max_processes = ap length p6 ∙ shaken_sized s4.state.procs g.result.act ∙ ap length p4 ∙ l.invariant.1.0 in
     let h : i.result < max_processes = rw i.ensures (seat_small _) in
     omega (arith, h, sized)
@@ -134,15 +134,17 @@ loop-steps-preserved c =
     let s6 = c.if-shakes in
     let p4 : s4.state.procs ≡ l.state.procs = elim s4.branch [ then-changes+else-d-ne0 w ↦ ap (λ (x : State). x.procs) w.state-is | else-changes w ↦ ap (λ (x : State). x.procs) w.state-is ] in
     let p6 : s6.state.procs ≡ shaken_of s4.state.procs g.result.act =
-        elim s6.branch [
-          then-shakes w ↦ ap (λ (x : State). x.procs) w.state-is ∙ w.shaken-shaken.ensures
-        | else-shakes w ↦ ap (λ (x : State). x.procs) w.state-is ∙ sym (unshaken s4.state.procs g.result.act (sym c.shakes.ensures ∙ w.if-shakes.false)) ] in
+    elim s6.branch [
+      | then-shakes w ↦ ap (λ (x : State). x.procs) w.state-is ∙ w.shaken-shaken.ensures
+      | else-shakes w ↦ ap (λ (x : State). x.procs) w.state-is ∙ sym (unshaken s4.state.procs g.result.act (sym c.shakes.ensures ∙ w.if-shakes.false))
+    ] in
     let sized : length s6.state.procs ≡ max_processes = ap length p6 ∙ shaken_sized s4.state.procs g.result.act ∙ ap length p4 ∙ l.invariant.1.0 in
     let j = c.seat-j in
     let m4 : made_of l.state.memory r.result.choice.process k.result ≡ taken s4.state.memory =
-        elim s4.branch [
-          then-changes+else-d-ne0 w ↦ sym w.made-d.ensures ∙ is_taken w.made-d.result w.if-d-ne0.false ∙ ap (λ (x : State). taken x.memory) (sym w.state-is)
-        | else-changes w ↦ unchanged l.state.memory r.result.choice.process k.result (sym c.changes.ensures ∙ w.if-changes.false) ∙ ap (λ (x : State). taken x.memory) (sym w.state-is) ] in
+    elim s4.branch [
+      | then-changes+else-d-ne0 w ↦ sym w.made-d.ensures ∙ is_taken w.made-d.result w.if-d-ne0.false ∙ ap (λ (x : State). taken x.memory) (sym w.state-is)
+      | else-changes w ↦ unchanged l.state.memory r.result.choice.process k.result (sym c.changes.ensures ∙ w.if-changes.false) ∙ ap (λ (x : State). taken x.memory) (sym w.state-is)
+    ] in
     let m6 : s6.state.memory ≡ s4.state.memory = elim s6.branch [ then-shakes w ↦ ap (λ (x : State). x.memory) w.state-is | else-shakes w ↦ ap (λ (x : State). x.memory) w.state-is ] in
     let h6 : s6.state.system ≡ c.handed-system.result = elim s6.branch [ then-shakes w ↦ ap (λ (x : State). x.system) w.state-is | else-shakes w ↦ ap (λ (x : State). x.system) w.state-is ] in
     let w = loop_read l.state r.result.choice l.invariant.1.0 i.result i.ensures z k.result k.ensures v.result v.ensures in

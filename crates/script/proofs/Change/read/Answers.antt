@@ -1,6 +1,5 @@
 -- `script::Change::read` meets its contract.
 use mathlib.Core.Path.{refl}
-use borrow.Author.Rules.{rules}
 use Rattle.script.specs.Script.{change_of}
 use Rattle.script.proofs.Change.read.Goals as goal
 

@@ -1,5 +1,4 @@
 -- `state::Handshake::next` meets its contract, phase by phase.
-use borrow.Author.Rules.{rules}
 use Rattle.state.proofs.Handshake.next.Goals as goal
 
 pub returns-in-Idle : goal.returns-in-Idle

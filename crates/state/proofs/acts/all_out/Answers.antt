@@ -1,4 +1,3 @@
-use borrow.Author.Rules.{rules}
 use mathlib.Core.Path.{refl}
 use Rattle.state.specs.Acts.{all_out_of}
 use Rattle.state.proofs.acts.all_out.Goals as goal

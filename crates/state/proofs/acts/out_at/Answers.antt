@@ -1,4 +1,3 @@
-use borrow.Author.Rules.{rules}
 use mathlib.Core.Path.{refl}
 use Rattle.state.specs.Acts.{out_at}
 use Rattle.state.proofs.acts.out_at.Goals as goal

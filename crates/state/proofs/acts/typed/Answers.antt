@@ -1,4 +1,3 @@
-use borrow.Author.Rules.{rules}
 use Rattle.state.specs.Acts.{typed}
 use Rattle.state.proofs.acts.typed.Goals as goal
 

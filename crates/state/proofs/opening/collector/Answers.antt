@@ -1,5 +1,4 @@
 use mathlib.Core.Path.{refl}
-use borrow.Author.Rules.{rules}
 use Rattle.state.specs.Openings.{open_collector}
 use Rattle.state.proofs.opening.collector.Goals as goal
 

@@ -1,11 +1,8 @@
 -- `verdict::colours::black_to_white` meets its contract: after c turns of the loop the cells 1 to c are judged.
 -- Assumes nothing.
 use Prim.Native.Nat.{◌≤◌, ◌-◌}
-use native.Mathlib.Omega.{arith}
-use mathlib.Core.Path.{◌≡◌, ◌∙◌}
-use borrow.Author.Rules.{rules}
-use Rattle.verdict.specs.Colours.{such_of, black_names_white_of, black_to_white_of}
-use Rattle.verdict.proofs.Such.{such_more}
+use mathlib.Core.Path.{◌≡◌}
+use Rattle.verdict.specs.Colours.{such_of, black_names_white_of}
 use Rattle.verdict.proofs.colours.black_to_white.Given as goal
 
 abbrev pub invariant-loop-c : goal.invariant-loop-c

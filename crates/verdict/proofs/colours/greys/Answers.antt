@@ -1,14 +1,11 @@
 -- `verdict::colours::greys` meets its contract: after i turns of the loop the greys of the first i processes are
 -- there. Assumes nothing.
-use Prim.Native.Nat.{◌≤◌, ◌-◌}
 use native.Mathlib.Omega.{arith}
-use mathlib.Core.Path.{◌≡◌, ◌∙◌, ap}
-use lib.ListN.{length, take}
+use mathlib.Core.Path.{◌∙◌, ap}
 use lib.Seq.{take_all}
 use borrow.Author.Rules.{rules}
 use Rattle.base.specs.Pick.{through}
 use Rattle.base.proofs.Lists.{carried, through_more}
-use Rattle.memory.specs.Memories.{max_processes}
 use Rattle.state.specs.States.{no_process}
 use Rattle.verdict.specs.Colours.{with_greys_of, greys_of}
 use Rattle.verdict.proofs.colours.greys.Goals as goal

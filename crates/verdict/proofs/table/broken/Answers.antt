@@ -1,11 +1,9 @@
 -- `verdict::table::broken` meets its contract: after p turns of the loop the mutators 1 to p are judged. Assumes
 -- nothing.
-use Prim.Native.Nat.{◌≤◌, ◌-◌}
 use native.Mathlib.Omega.{arith}
 use mathlib.Core.Path.{◌≡◌, ◌∙◌}
 use borrow.Author.Rules.{rules}
 use Rattle.state.specs.States.{mutators_of}
-use Rattle.verdict.specs.Colours.{such_of}
 use Rattle.verdict.specs.Table.{wrong_of, broken_of}
 use Rattle.verdict.proofs.Such.{such_more}
 use Rattle.verdict.proofs.table.broken.Goals as goal

@@ -1,5 +1,4 @@
 -- `buffers::sources::Source::after` meets its contract. Assumes nothing.
-use borrow.Author.Rules.{rules}
 use Rattle.buffers.proofs.sources.Source.after.Goals as goal
 
 pub returns-in-Own : goal.returns-in-Own

@@ -1,7 +1,6 @@
 -- `buffers::sources::Source::number` meets its contract. Assumes nothing.
 use mathlib.Core.Path.{refl}
 use native.Mathlib.Omega.{arith}
-use borrow.Author.Rules.{rules}
 use borrow.Author.Tests.{lt-ltb, le-ltb}
 use Rattle.buffers.specs.Buffers.{max_stores}
 use Rattle.buffers.proofs.sources.Source.number.Goals as goal
