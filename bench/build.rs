@@ -1,6 +1,6 @@
 //! With the feature `proved`: links the static library of the proved judge,
-//! which `rt staticlib claysaucer` makes; with `earlier`, also that of an
-//! earlier commit, which `bench/earlier` makes.
+//! which `./staticlib` makes; with `earlier`, also that of an earlier commit,
+//! which `bench/earlier` makes.
 
 use std::env;
 use std::path::PathBuf;
@@ -8,7 +8,7 @@ use std::path::PathBuf;
 fn main() {
     println!("cargo::rerun-if-changed=build.rs");
     if env::var_os("CARGO_FEATURE_PROVED").is_some() {
-        link("claysaucer", "`rt staticlib claysaucer` at the root");
+        link("claysaucer", "`./staticlib` at the root");
     }
     if env::var_os("CARGO_FEATURE_EARLIER").is_some() {
         link("earlier", "`bench/earlier COMMIT`");

@@ -1,9 +1,9 @@
 /*
  * Claysaucer for C: the proved judge of a log, as one function.
  *
- * The function is in target/staticlib/libclaysaucer.a, which `rt staticlib claysaucer`
- * makes for x86-64. It needs only the C library, allocates nothing, keeps
- * nothing between calls, and may be called from several threads at once.
+ * The function is in target/staticlib/libclaysaucer.a, which ./staticlib makes
+ * for x86-64. It needs only the C library, allocates nothing, keeps nothing
+ * between calls, and may be called from several threads at once.
  */
 #ifndef CLAYSAUCER_H
 #define CLAYSAUCER_H

@@ -1,5 +1,5 @@
-//! The proved judge, through the static library that `rt staticlib claysaucer`
-//! makes. Nothing of it is used by the independent judge.
+//! The proved judge, through the static library that `./staticlib` makes.
+//! Nothing of it is used by the independent judge.
 
 use crate::log::{judge as rust_judge, line, Outcome};
 use crate::timing::Judge;

@@ -1,4 +1,4 @@
-// The judge for C and Rust: one function on a byte slice that packs the four numbers.
+// The judge as one function on a byte slice that packs the four numbers. `claysaucer_c` exports it for C and Rust.
 #![tactic(auto)]
 
 ghost use Rattle.std.specs.Prelude.{◌≡◌};
@@ -22,8 +22,7 @@ fn packed(o: Outcome) -> u64
 }
 
 // "The C test bench gives the log as bytes and gets the same three numbers", and "a fourth number for the C bench".
-#[unsafe(no_mangle)]
-pub extern "C" fn claysaucer_judge(log: &[u8]) -> u64
+pub fn claysaucer_judge(log: &[u8]) -> u64
     ensures { result ≡ packed_of (judge_of log.now) }
 {
     packed(runlog::judge(log))
