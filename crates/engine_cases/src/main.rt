@@ -19,14 +19,7 @@ use memory::Memory;
 use script::{Change, digit, rest};
 use state::opening::Heap;
 use state::{Answer, Choice, Process, State};
-
-fn say(text: &[u8]) {
-    io::write_all(1, text);
-}
-
-fn tell(n: u8) {
-    io::print_decimal(1, n as u64);
-}
+use std::io::{self, Read};
 
 // A choice, behind its sign: six digits, as a record has them: process, kind, operation, x, f, y.
 fn choice(s: &[u8]) -> Choice {
@@ -55,44 +48,41 @@ fn ground() -> State {
     })
 }
 
-fn place(q: Process) {
-    say(b">");
-    tell(q.place);
-    say(b"/");
-    tell(q.stage);
+fn place(rt: &impl Print, q: Process) -> io::Result<()> {
+    print!(rt; ">{}/{}", q.place, q.stage)
 }
 
 // The answer of a step of process p from the state s.
-fn answer(s: State, p: u8, a: Answer) {
+fn answer(rt: &impl Print, s: State, p: u8, a: Answer) -> io::Result<()> {
     let t = a.state;
-    say(b" ");
-    tell(a.no);
+    print!(rt; " {}", a.no)?;
     if a.no == Refusal::TAKEN {
-        place(t.process(p));
+        place(rt, t.process(p))
     } else if same::state(s, t, p) {
-        say(b"=");
+        print!(rt; "=")
     } else {
-        say(b"!");
+        print!(rt; "!")
     }
 }
 
 // One step, and its answer.
-fn told(s: State, c: Choice) {
-    answer(s, c.process, engine::step(s, c));
+fn told(rt: &impl Print, s: State, c: Choice) -> io::Result<()> {
+    answer(rt, s, c.process, engine::step(s, c))
 }
 
 // The same with the lock held by nobody, by the collector, by mutator 1, by mutator 2: four answers.
-fn locks(s: State, c: Choice) {
-    told(s, c);
-    told(acts::held(s, 0), c);
-    told(acts::held(s, 1), c);
-    told(acts::held(s, 2), c);
+fn locks(rt: &impl Print, s: State, c: Choice) -> io::Result<()> {
+    told(rt, s, c)?;
+    told(rt, acts::held(s, 0), c)?;
+    told(rt, acts::held(s, 1), c)?;
+    told(rt, acts::held(s, 2), c)
 }
 
-fn echo(s: &[u8]) {
-    if 0 < s.len() {
-        say(&s[0..1]);
+fn echo(rt: &impl Print, s: &[u8]) -> io::Result<()> {
+    if s.is_empty() {
+        return Ok(());
     }
+    rt.write_all(&s[0..1])
 }
 
 // How many bytes belong to the first.
@@ -109,43 +99,44 @@ fn more(text: &[u8]) -> usize {
 
 // What stands first in the text: + a change; = a choice, # a choice with each holder of the lock, after which the
 // ground is as before; a semicolon, behind which is why the cases below it are there; else a byte of a line.
-fn turn(s: State, text: &[u8]) -> State {
+fn turn(rt: &impl Print, s: State, text: &[u8]) -> io::Result<State> {
     let b = byte(text, 0);
     match b {
-        b'+' => acts::changed(s, Change::read(text)),
+        b'+' => Ok(acts::changed(s, Change::read(text))),
         b'=' => {
-            told(s, choice(text));
-            ground()
+            told(rt, s, choice(text))?;
+            Ok(ground())
         }
         b'#' => {
-            locks(s, choice(text));
-            ground()
+            locks(rt, s, choice(text))?;
+            Ok(ground())
         }
-        b';' => s,
+        b';' => Ok(s),
         _ => {
-            echo(text);
-            s
+            echo(rt, text)?;
+            Ok(s)
         }
     }
 }
 
 // All cases, each from the ground.
-fn table(text: &[u8]) {
+fn table(rt: &impl Print, text: &[u8]) -> io::Result<()> {
     let mut s = ground();
     let mut at = 0;
     while at < text.len() {
         let first = &text[at..];
-        s = turn(s, first);
+        s = turn(rt, s, first)?;
         let k = more(first);
         if text.len() - at <= k {
-            return;
+            return Ok(());
         }
         at += k + 1;
     }
+    Ok(())
 }
 
-fn main() {
-    let mut text = io::large_buffer();
-    let n = io::read_full(0, &mut text);
-    table(&text[..n]);
+fn main(rt: HostRuntime) -> io::Result<()> {
+    let mut text = Vec::new(rt.alloc());
+    rt.reader().read_to_end(&mut text)?;
+    table(&rt, &text)
 }

@@ -4,17 +4,14 @@
 
 mod table;
 
-ghost use Rattle.std.specs.Prelude.{◌≤◌};
+ghost use Rattle.std.specs.Prelude.{◌≤◌, IfOk};
 
 use header::bytes::byte;
 use runlog::Outcome;
+use std::io;
 
 // What stands before a log: the case, steps, stop, verdict, the log's length.
 const HEAD: usize = 5;
-
-fn say(text: &[u8]) {
-    io::write_all(1, text);
-}
 
 // The numbers of the judge's line, which are those of the table.
 #[derive(Clone, Copy)]
@@ -32,13 +29,8 @@ fn line_of(o: Outcome) -> Numbers {
     }
 }
 
-fn tell(o: Numbers) {
-    say(b" steps ");
-    io::print_decimal(1, o.steps as u64);
-    say(b" stop ");
-    io::print_decimal(1, o.stop as u64);
-    say(b" verdict ");
-    io::print_decimal(1, o.verdict as u64);
+fn tell(rt: &impl Print, o: Numbers) -> io::Result<()> {
+    print!(rt; " steps {} stop {} verdict {}", o.steps, o.stop, o.verdict)
 }
 
 fn same(a: Numbers, b: Numbers) -> bool {
@@ -63,23 +55,21 @@ fn given(case: &[u8]) -> Numbers {
 }
 
 // The line of a case; 1 if it differs.
-fn told(case: &[u8]) -> u64
-    ensures { result ≤ 1 }
+fn told(rt: &impl Print, case: &[u8]) -> io::Result<u64>
+    ensures { IfOk result (λ k. k ≤ 1) }
 {
     let want = expected(case);
     let got = given(case);
-    say(b"case ");
-    io::print_decimal(1, byte(case, 0) as u64);
-    say(b": expected");
-    tell(want);
-    say(b", given");
-    tell(got);
+    print!(rt; "case {}: expected", byte(case, 0))?;
+    tell(rt, want)?;
+    print!(rt; ", given")?;
+    tell(rt, got)?;
     if same(want, got) {
-        say(b": same\n");
-        return 0;
+        println!(rt; ": same")?;
+        return Ok(0);
     }
-    say(b": differs\n");
-    1
+    println!(rt; ": differs")?;
+    Ok(1)
 }
 
 // How many bytes the first case of the rest has.
@@ -90,35 +80,33 @@ fn size(rest: &[u8]) -> usize
 }
 
 // The line of the first case of the rest, which has n bytes. A table that ends inside a case differs.
-fn first(rest: &[u8], n: usize) -> u64
-    ensures { result ≤ 1 }
+fn first(rt: &impl Print, rest: &[u8], n: usize) -> io::Result<u64>
+    ensures { IfOk result (λ k. k ≤ 1) }
 {
     if n <= rest.len() {
-        return told(&rest[..n]);
+        return told(rt, &rest[..n]);
     }
-    say(b"the table ends inside a case\n");
-    1
+    println!(rt; "the table ends inside a case")?;
+    Ok(1)
 }
 
 // All lines, and how many cases differ.
-fn differing(table: &[u8]) -> u64 {
+fn differing(rt: &impl Print, table: &[u8]) -> io::Result<u64> {
     let mut count = 0;
     let mut at = 0;
     while at < table.len() {
         let n = size(&table[at..]);
-        count += first(&table[at..], n);
+        count += first(rt, &table[at..], n)?;
         if table.len() - at < n {
-            return count;
+            return Ok(count);
         }
         at += n;
     }
-    count
+    Ok(count)
 }
 
-fn main() {
+fn main(rt: HostRuntime) -> io::Result<()> {
     let marked = table::marked();
-    let count = differing(&marked);
-    say(b"differences ");
-    io::print_decimal(1, count);
-    say(b"\n");
+    let count = differing(&rt, &marked)?;
+    println!(rt; "differences {count}")
 }

@@ -11,10 +11,11 @@
 //         the lock at v
 //     5 . c   a mark      6 . c f v   a field      7 p . . v   a length      8 p . f v   an entry at place f: v 0 the
 //             store x:=1, 1 fM:=0, 2 mark of null
-use super::{Act, bare, say, tell};
+use super::{Act, bare, tell};
 use buffers::sources::Source;
 use buffers::{Buffer, Entry, Phase, Store};
 use memory::{Done, Memory, ReadBit, ReadPhase, ReadSwept, ReadValue};
+use std::io;
 
 // ---- answers
 
@@ -22,59 +23,55 @@ fn bit(b: bool) -> u64 {
     if b { 1 } else { 0 }
 }
 
-fn answered(done: Done) -> Memory {
-    tell(done.no as u64);
-    done.memory
+fn answered(rt: &impl Print, done: Done) -> io::Result<Memory> {
+    tell(rt, done.no as u64)?;
+    Ok(done.memory)
 }
 
-fn saw(no: u8, value: u64) {
-    tell(no as u64);
-    say(b":");
-    io::print_decimal(1, value);
+fn saw(rt: &impl Print, no: u8, value: u64) -> io::Result<()> {
+    print!(rt; " {no}:{value}")
 }
 
-fn saw_bit(r: ReadBit) {
+fn saw_bit(rt: &impl Print, r: ReadBit) -> io::Result<()> {
     let s = r.seen;
-    saw(s.no, bit(s.bit));
+    saw(rt, s.no, bit(s.bit))
 }
 
-fn saw_value(r: ReadValue) {
+fn saw_value(rt: &impl Print, r: ReadValue) -> io::Result<()> {
     let s = r.seen;
-    saw(s.no, s.value as u64);
+    saw(rt, s.no, s.value as u64)
 }
 
 // A phase by its place among Idle, Init, Mark, Sweep.
-fn saw_phase(r: ReadPhase) {
+fn saw_phase(rt: &impl Print, r: ReadPhase) -> io::Result<()> {
     let s = r.seen;
     let phase = s.phase;
     match phase {
-        Phase::Idle => saw(s.no, 0),
-        Phase::Init => saw(s.no, 1),
-        Phase::Mark => saw(s.no, 2),
-        Phase::Sweep => saw(s.no, 3),
+        Phase::Idle => saw(rt, s.no, 0),
+        Phase::Init => saw(rt, s.no, 1),
+        Phase::Mark => saw(rt, s.no, 2),
+        Phase::Sweep => saw(rt, s.no, 3),
     }
 }
 
-fn saw_swept(r: ReadSwept) {
+fn saw_swept(rt: &impl Print, r: ReadSwept) -> io::Result<()> {
     let s = r.seen;
-    saw(s.no, bit(s.used));
-    say(b":");
-    io::print_decimal(1, bit(s.bit));
+    print!(rt; " {}:{}:{}", s.no, bit(s.used), bit(s.bit))
 }
 
 // "0 for memory, the place plus 1 for the own buffer, 255 if nothing was read"
-fn came(from: Source) {
-    tell(from.number() as u64);
+fn came(rt: &impl Print, from: Source) -> io::Result<()> {
+    tell(rt, from.number() as u64)
 }
 
-fn value_came(r: ReadValue) {
+fn value_came(rt: &impl Print, r: ReadValue) -> io::Result<()> {
     let from = r.from;
-    came(from);
+    came(rt, from)
 }
 
-fn swept_came(r: ReadSwept) {
+fn swept_came(rt: &impl Print, r: ReadSwept) -> io::Result<()> {
     let from = r.from;
-    came(from);
+    came(rt, from)
 }
 
 // ---- stores
@@ -106,39 +103,39 @@ fn store(a: Act) -> Store {
     }
 }
 
-fn write(m: Memory, a: Act) -> Memory {
+fn write(rt: &impl Print, m: Memory, a: Act) -> io::Result<Memory> {
     let entry = Entry { store: store(a) };
-    answered(m.write(a.p, entry))
+    answered(rt, m.write(a.p, entry))
 }
 
 // ---- steps and looks
 
-fn step(m: Memory, a: Act) -> Memory {
+fn step(rt: &impl Print, m: Memory, a: Act) -> io::Result<Memory> {
     let letter = a.letter;
     match letter {
-        b'c' => answered(m.commit(a.p)),
-        b'f' => answered(m.fence(a.p)),
-        b'l' => answered(m.take_lock(a.p)),
-        b'u' => answered(m.leave_lock(a.p)),
-        b'a' => answered(m.allocate(a.p, a.c)),
-        b'd' => answered(m.free(a.p, a.c)),
-        _ => write(m, a),
+        b'c' => answered(rt, m.commit(a.p)),
+        b'f' => answered(rt, m.fence(a.p)),
+        b'l' => answered(rt, m.take_lock(a.p)),
+        b'u' => answered(rt, m.leave_lock(a.p)),
+        b'a' => answered(rt, m.allocate(a.p, a.c)),
+        b'd' => answered(rt, m.free(a.p, a.c)),
+        _ => write(rt, m, a),
     }
 }
 
-fn look(m: Memory, a: Act) {
+fn look(rt: &impl Print, m: Memory, a: Act) -> io::Result<()> {
     let letter = a.letter;
     match letter {
-        b'F' => saw_value(m.look_field(a.p, a.c, a.f)),
-        b'M' => saw_bit(m.look_mark(a.p, a.c)),
-        b'S' => saw_bit(m.look_sense(a.p)),
-        b'H' => saw_phase(m.look_phase(a.p)),
-        b'E' => saw_swept(m.look_swept(a.p, a.c)),
-        b'O' => value_came(m.look_field(a.p, a.c, a.f)),
-        b'Q' => swept_came(m.look_swept(a.p, a.c)),
-        b'P' => tell(m.pending(a.p) as u64),
-        b'U' => tell(bit(m.is_used(a.c))),
-        _ => tell(bit(memory_formed::well_formed(m))),
+        b'F' => saw_value(rt, m.look_field(a.p, a.c, a.f)),
+        b'M' => saw_bit(rt, m.look_mark(a.p, a.c)),
+        b'S' => saw_bit(rt, m.look_sense(a.p)),
+        b'H' => saw_phase(rt, m.look_phase(a.p)),
+        b'E' => saw_swept(rt, m.look_swept(a.p, a.c)),
+        b'O' => value_came(rt, m.look_field(a.p, a.c, a.f)),
+        b'Q' => swept_came(rt, m.look_swept(a.p, a.c)),
+        b'P' => tell(rt, m.pending(a.p) as u64),
+        b'U' => tell(rt, bit(m.is_used(a.c))),
+        _ => tell(rt, bit(memory_formed::well_formed(m))),
     }
 }
 
@@ -226,13 +223,13 @@ fn poke(m: Memory, a: Act) -> Memory {
 }
 
 // A digit pokes, a capital looks, and any other letter is a step.
-pub(crate) fn act(m: Memory, a: Act) -> Memory {
+pub(crate) fn act(rt: &impl Print, m: Memory, a: Act) -> io::Result<Memory> {
     if a.letter <= b'9' {
-        return poke(m, a);
+        return Ok(poke(m, a));
     }
     if a.letter <= b'Z' {
-        look(m, a);
-        return m;
+        look(rt, m, a)?;
+        return Ok(m);
     }
-    step(m, a)
+    step(rt, m, a)
 }

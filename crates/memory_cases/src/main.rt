@@ -19,6 +19,7 @@ mod rooms;
 
 use buffers::{Buffer, Phase};
 use memory::{Memory, PhaseWord};
+use std::io;
 
 // One step of a sequence: six bytes, a letter (see `acts`), four digits and a space. The digits go on after 9 by the
 // bytes' numbers: p is 64, q 65.
@@ -35,13 +36,8 @@ impl Act {
     const SIZE: usize = 6;
 }
 
-fn say(text: &[u8]) {
-    io::write_all(1, text);
-}
-
-fn tell(n: u64) {
-    say(b" ");
-    io::print_decimal(1, n);
+fn tell(rt: &impl Print, n: u64) -> io::Result<()> {
+    print!(rt; " {n}")
 }
 
 fn byte(s: &[u8], i: usize) -> u8 {
@@ -84,8 +80,8 @@ fn allocated(m: Memory, c: u8) -> Memory {
 }
 
 // The sequence's steps, and a line of their answers.
-fn run(text: &[u8], steps: &[u8]) {
-    say(text);
+fn run(rt: &impl Print, text: &str, steps: &[u8]) -> io::Result<()> {
+    print!(rt; "{text}")?;
     let mut m = allocated(allocated(bare(), 1), 2);
     let n = steps.len();
     let mut left = n;
@@ -98,18 +94,18 @@ fn run(text: &[u8], steps: &[u8]) {
             f: digit(steps, i + 3),
             v: digit(steps, i + 4),
         };
-        m = acts::act(m, a);
+        m = acts::act(rt, m, a)?;
         left -= Act::SIZE;
     }
-    say(b"\n");
+    println!(rt)
 }
 
-fn main() {
-    orders::lines();
-    locks::lines();
-    rooms::lines();
-    heaps::lines();
-    bounds::lines();
-    forms::lines();
-    origins::lines();
+fn main(rt: HostRuntime) -> io::Result<()> {
+    orders::lines(&rt)?;
+    locks::lines(&rt)?;
+    rooms::lines(&rt)?;
+    heaps::lines(&rt)?;
+    bounds::lines(&rt)?;
+    forms::lines(&rt)?;
+    origins::lines(&rt)
 }

@@ -2,6 +2,7 @@
 use memory::Memory;
 use state::opening::Heap;
 use state::{Process, State};
+use std::io;
 
 // Three cells, of which 1 and 2 are occupied and cell 1 names cell 2; two mutators, of which the first has the root 1.
 pub(crate) fn ground() -> State {
@@ -19,11 +20,11 @@ pub(crate) fn ground() -> State {
     })
 }
 
-pub(crate) fn answer(s: State) {
+pub(crate) fn answer(rt: &impl Print, s: State) -> io::Result<()> {
     if formed::well_formed(s) {
-        io::write_all(1, b"yes");
+        print!(rt; "yes")
     } else {
-        io::write_all(1, b"no");
+        print!(rt; "no")
     }
 }
 

@@ -11,28 +11,30 @@ mod places;
 use header::bytes::byte;
 use script::{Change, rest};
 use state::State;
+use std::io::{self, Read};
 
-fn echo(s: &[u8]) {
-    if 0 < s.len() {
-        io::write_all(1, &s[0..1]);
+fn echo(rt: &impl Print, s: &[u8]) -> io::Result<()> {
+    if s.is_empty() {
+        return Ok(());
     }
+    rt.write_all(&s[0..1])
 }
 
 // What stands first in the text: + a change; ? the answer, after which the ground is as before; a semicolon, behind
 // which is why the cases below it are there; else a byte of a line.
-fn turn(s: State, text: &[u8]) -> State {
+fn turn(rt: &impl Print, s: State, text: &[u8]) -> io::Result<State> {
     let b = byte(text, 0);
     match b {
-        b'+' => acts::changed(s, Change::read(text)),
+        b'+' => Ok(acts::changed(s, Change::read(text))),
         b'?' => {
-            io::write_all(1, b" ");
-            ground::answer(s);
-            ground::ground()
+            print!(rt; " ")?;
+            ground::answer(rt, s)?;
+            Ok(ground::ground())
         }
-        b';' => s,
+        b';' => Ok(s),
         _ => {
-            echo(text);
-            s
+            echo(rt, text)?;
+            Ok(s)
         }
     }
 }
@@ -48,23 +50,24 @@ fn more(text: &[u8]) -> usize {
 }
 
 // All cases, each from the ground.
-fn table(text: &[u8]) {
+fn table(rt: &impl Print, text: &[u8]) -> io::Result<()> {
     let mut s = ground::ground();
     let mut at = 0;
     while at < text.len() {
         let first = &text[at..];
-        s = turn(s, first);
+        s = turn(rt, s, first)?;
         let k = more(first);
         if text.len() - at <= k {
-            return;
+            return Ok(());
         }
         at += k + 1;
     }
+    Ok(())
 }
 
-fn main() {
-    places::all();
-    let mut text = io::large_buffer();
-    let n = io::read_full(0, &mut text);
-    table(&text[..n]);
+fn main(rt: HostRuntime) -> io::Result<()> {
+    places::all(&rt)?;
+    let mut text = Vec::new(rt.alloc());
+    rt.reader().read_to_end(&mut text)?;
+    table(&rt, &text)
 }

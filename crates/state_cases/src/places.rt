@@ -2,6 +2,7 @@
 use super::{acts, ground};
 use state::Process;
 use state::codes::{MarkStage, Place, RoundStage};
+use std::io;
 
 // The stages of a place: a mark's seven, a round's four, or none.
 fn stages(place: u8) -> u8 {
@@ -109,83 +110,76 @@ fn whose(place: u8) -> u8 {
     1
 }
 
-fn column(name: &[u8], p: u8, q: Process) {
-    io::write_all(1, b" ");
-    io::write_all(1, name);
-    io::write_all(1, b" ");
-    ground::answer(ground::seat(p, q));
+fn column(rt: &impl Print, name: &str, p: u8, q: Process) -> io::Result<()> {
+    print!(rt; " {name} ")?;
+    ground::answer(rt, ground::seat(p, q))
 }
 
 // The process with one note broken: the letter of the note (see `acts`), and its value.
-fn broken(name: &[u8], p: u8, q: Process, letter: u8, v: u8) {
-    column(name, p, acts::noted(q, letter, v));
+fn broken(rt: &impl Print, name: &str, p: u8, q: Process, letter: u8, v: u8) -> io::Result<()> {
+    column(rt, name, p, acts::noted(q, letter, v))
 }
 
 // Numbers above N = 3, a field above 1.
-fn numbers(p: u8, q: Process) {
-    broken(b"x", p, q, b'X', 4);
-    broken(b"f", p, q, b'F', 2);
-    broken(b"y", p, q, b'Y', 4);
-    broken(b"old", p, q, b'O', 4);
-    broken(b"cell", p, q, b'C', 4);
-    broken(b"grey", p, q, b'G', 4);
+fn numbers(rt: &impl Print, p: u8, q: Process) -> io::Result<()> {
+    broken(rt, "x", p, q, b'X', 4)?;
+    broken(rt, "f", p, q, b'F', 2)?;
+    broken(rt, "y", p, q, b'Y', 4)?;
+    broken(rt, "old", p, q, b'O', 4)?;
+    broken(rt, "cell", p, q, b'C', 4)?;
+    broken(rt, "grey", p, q, b'G', 4)
 }
 
 // Sets with the bit of cell 4.
-fn sets(p: u8, q: Process) {
-    broken(b"left", p, q, b'L', 8);
-    broken(b"work", p, q, b'W', 8);
-    broken(b"roots", p, q, b'R', 8);
+fn sets(rt: &impl Print, p: u8, q: Process) -> io::Result<()> {
+    broken(rt, "left", p, q, b'L', 8)?;
+    broken(rt, "work", p, q, b'W', 8)?;
+    broken(rt, "roots", p, q, b'R', 8)
 }
 
 // Bits where they are not in use.
-fn bits(p: u8, q: Process) {
+fn bits(rt: &impl Print, p: u8, q: Process) -> io::Result<()> {
     if !q.look {
         let mut look = q;
         look.look = true;
-        column(b"look", p, look);
+        column(rt, "look", p, look)?;
     }
     if 0 < p {
         if !q.sense {
-            broken(b"sense", p, q, b'N', 1);
+            broken(rt, "sense", p, q, b'N', 1)?;
         }
     }
+    Ok(())
 }
 
-fn at(place: u8, stage: u8) {
+fn at(rt: &impl Print, place: u8, stage: u8) -> io::Result<()> {
     let p = whose(place);
     let q = fitting(place, stage);
-    io::print_decimal(1, place as u64);
-    io::write_all(1, b"/");
-    io::print_decimal(1, stage as u64);
-    io::write_all(1, b" ");
-    ground::answer(ground::seat(p, q));
-    io::write_all(1, b", broken:");
-    numbers(p, q);
-    sets(p, q);
-    bits(p, q);
-    io::write_all(1, b"\n");
+    print!(rt; "{place}/{stage} ")?;
+    ground::answer(rt, ground::seat(p, q))?;
+    print!(rt; ", broken:")?;
+    numbers(rt, p, q)?;
+    sets(rt, p, q)?;
+    bits(rt, p, q)?;
+    println!(rt)
 }
 
-fn each(place: u8) {
+fn each(rt: &impl Print, place: u8) -> io::Result<()> {
     let n = stages(place);
     if n == 0 {
-        at(place, 0);
-        return;
+        return at(rt, place, 0);
     }
-    let mut stage = 1;
-    while stage < 8 {
+    for stage in 1..8 {
         if stage <= n {
-            at(place, stage);
+            at(rt, place, stage)?;
         }
-        stage += 1;
     }
+    Ok(())
 }
 
-pub(crate) fn all() {
-    let mut place = 0;
-    while place < Place::BEYOND {
-        each(place);
-        place += 1;
+pub(crate) fn all(rt: &impl Print) -> io::Result<()> {
+    for place in 0..Place::BEYOND {
+        each(rt, place)?;
     }
+    Ok(())
 }

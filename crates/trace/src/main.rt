@@ -12,6 +12,7 @@ use memory::Memory;
 use script::{digit, rest};
 use state::opening::Heap;
 use state::{Choice, Process, State};
+use std::io::{self, Read};
 
 // Four cells: 1 has cell 2 in its field 0 and is the root of both mutators; 3 is free; 4 names 1 and nothing leads to
 // it.
@@ -31,10 +32,6 @@ fn heap() -> Heap {
     }
 }
 
-fn say(text: &[u8]) {
-    io::write_all(1, text);
-}
-
 fn choice(text: &[u8]) -> Choice {
     Choice {
         process: digit(text, 0),
@@ -47,44 +44,43 @@ fn choice(text: &[u8]) -> Choice {
 }
 
 // The line of a choice: its step from where the process was, the answer's number, and where the process then is.
-fn line(c: Choice, before: Process, no: u8, after: Process) {
-    names::choice(c);
-    names::step(c, before);
-    say(b": ");
-    io::print_decimal(1, names::wide(no));
-    say(b" -> ");
-    names::place(after);
-    say(b"\n");
+fn line(rt: &impl Print, c: Choice, before: Process, no: u8, after: Process) -> io::Result<()> {
+    names::choice(rt, c)?;
+    names::step(rt, c, before)?;
+    print!(rt; ": {no} -> ")?;
+    names::place(rt, after)?;
+    println!(rt)
 }
 
 // One choice, its line, and the state after it.
-fn told(s: State, text: &[u8]) -> State {
+fn told(rt: &impl Print, s: State, text: &[u8]) -> io::Result<State> {
     let c = choice(text);
     let a = engine::step(s, c);
     let after = a.state;
-    line(c, s.process(c.process), a.no, after.process(c.process));
-    after
+    line(rt, c, s.process(c.process), a.no, after.process(c.process))?;
+    Ok(after)
 }
 
 // A line that starts with # is the title of a chapter.
-fn title(text: &[u8]) {
+fn title(rt: &impl Print, text: &[u8]) -> io::Result<()> {
     let k = rest(text);
     if k <= text.len() {
-        say(&text[..k]);
-        say(b"\n");
+        rt.write_all(&text[..k])?;
+        println!(rt)?;
     }
+    Ok(())
 }
 
 // What stands first in the text: a title, a choice, or what is between them.
-fn turn(s: State, text: &[u8]) -> State {
+fn turn(rt: &impl Print, s: State, text: &[u8]) -> io::Result<State> {
     let b = byte(text, 0);
     match b {
         b'#' => {
-            title(text);
-            s
+            title(rt, text)?;
+            Ok(s)
         }
-        b'0'..=b'9' => told(s, text),
-        _ => s,
+        b'0'..=b'9' => told(rt, s, text),
+        _ => Ok(s),
     }
 }
 
@@ -99,22 +95,23 @@ fn more(text: &[u8]) -> usize {
 }
 
 // All chapters, one after the other.
-fn run(text: &[u8]) {
+fn run(rt: &impl Print, text: &[u8]) -> io::Result<()> {
     let mut s = State::opening(heap());
     let mut at = 0;
     while at < text.len() {
         let first = &text[at..];
-        s = turn(s, first);
+        s = turn(rt, s, first)?;
         let k = more(first);
         if text.len() - at <= k {
-            return;
+            return Ok(());
         }
         at += k + 1;
     }
+    Ok(())
 }
 
-fn main() {
-    let mut text = io::large_buffer();
-    let n = io::read_full(0, &mut text);
-    run(&text[..n]);
+fn main(rt: HostRuntime) -> io::Result<()> {
+    let mut text = Vec::new(rt.alloc());
+    rt.reader().read_to_end(&mut text)?;
+    run(&rt, &text)
 }

@@ -1,174 +1,155 @@
 // The names of places, stages and operations, in document 01's words.
 use state::codes::{MarkStage, Place, RoundStage};
 use state::{Choice, Process};
-
-fn say(text: &[u8]) {
-    io::write_all(1, text);
-}
-
-pub(crate) fn wide(x: u8) -> u64 {
-    x as u64
-}
-
-fn tell(x: u8) {
-    io::print_decimal(1, wide(x));
-    say(b" ");
-}
+use std::io;
 
 // The six numbers of a choice.
-pub(crate) fn choice(c: Choice) {
-    tell(c.process);
-    tell(c.kind);
-    tell(c.op);
-    tell(c.x);
-    tell(c.f);
-    tell(c.y);
+pub(crate) fn choice(rt: &impl Print, c: Choice) -> io::Result<()> {
+    print!(rt;
+        "{} {} {} {} {} {} ",
+        c.process, c.kind, c.op, c.x, c.f, c.y
+    )
 }
 
-fn mutator(place: u8) {
+fn mutator(place: u8) -> &'static str {
     match place {
-        Place::TOP => say(b"top"),
-        Place::STORE_MARK_OLD => say(b"store: mark the old"),
-        Place::STORE_MARK_Y => say(b"store: mark y"),
-        Place::STORE_WRITE => say(b"store: write"),
-        Place::NOOP_FENCE => say(b"no-op: fence"),
-        Place::NOOP_FINISH => say(b"no-op: finish"),
-        Place::ROOTS_FENCE => say(b"roots: fence"),
-        Place::ROOTS_MARK => say(b"roots: mark"),
-        Place::ROOTS_FINISH => say(b"roots: finish"),
-        Place::WORK_FENCE => say(b"work: fence"),
-        Place::WORK_FINISH => say(b"work: finish"),
-        _ => say(b"?"),
+        Place::TOP => "top",
+        Place::STORE_MARK_OLD => "store: mark the old",
+        Place::STORE_MARK_Y => "store: mark y",
+        Place::STORE_WRITE => "store: write",
+        Place::NOOP_FENCE => "no-op: fence",
+        Place::NOOP_FINISH => "no-op: finish",
+        Place::ROOTS_FENCE => "roots: fence",
+        Place::ROOTS_MARK => "roots: mark",
+        Place::ROOTS_FINISH => "roots: finish",
+        Place::WORK_FENCE => "work: fence",
+        Place::WORK_FINISH => "work: finish",
+        _ => "?",
     }
 }
 
-fn rows_1_to_5(place: u8) {
+fn rows_1_to_5(place: u8) -> &'static str {
     match place {
-        Place::ROW1_ROUND => say(b"row 1 round"),
-        Place::ROW2_READ => say(b"row 2 read fM"),
-        Place::ROW2_WRITE => say(b"row 2 write fM"),
-        Place::ROW3_ROUND => say(b"row 3 round"),
-        Place::ROW4_WRITE => say(b"row 4 write phase Init"),
-        Place::ROW4_ROUND => say(b"row 4 round"),
-        Place::ROW5_PHASE => say(b"row 5 write phase Mark"),
-        Place::ROW5_ALLOC => say(b"row 5 write fA"),
-        Place::ROW5_ROUND => say(b"row 5 round"),
-        _ => say(b"?"),
+        Place::ROW1_ROUND => "row 1 round",
+        Place::ROW2_READ => "row 2 read fM",
+        Place::ROW2_WRITE => "row 2 write fM",
+        Place::ROW3_ROUND => "row 3 round",
+        Place::ROW4_WRITE => "row 4 write phase Init",
+        Place::ROW4_ROUND => "row 4 round",
+        Place::ROW5_PHASE => "row 5 write phase Mark",
+        Place::ROW5_ALLOC => "row 5 write fA",
+        Place::ROW5_ROUND => "row 5 round",
+        _ => "?",
     }
 }
 
-fn rows_6_to_8(place: u8) {
+fn rows_6_to_8(place: u8) -> &'static str {
     match place {
-        Place::ROW6_ROUND => say(b"row 6 round"),
-        Place::ROW6_TAKE => say(b"row 6 take"),
-        Place::ROW7_FIRST => say(b"row 7 first read"),
-        Place::ROW7_MARK => say(b"row 7 mark"),
-        Place::ROW7_NEXT => say(b"row 7 next read"),
-        Place::ROW7_DROP => say(b"row 7 drop"),
-        Place::ROW8_ROUND => say(b"row 8 round"),
-        Place::ROW8_TAKE => say(b"row 8 take"),
-        _ => say(b"?"),
+        Place::ROW6_ROUND => "row 6 round",
+        Place::ROW6_TAKE => "row 6 take",
+        Place::ROW7_FIRST => "row 7 first read",
+        Place::ROW7_MARK => "row 7 mark",
+        Place::ROW7_NEXT => "row 7 next read",
+        Place::ROW7_DROP => "row 7 drop",
+        Place::ROW8_ROUND => "row 8 round",
+        Place::ROW8_TAKE => "row 8 take",
+        _ => "?",
     }
 }
 
-fn rows_9_to_11(place: u8) {
+fn rows_9_to_11(place: u8) -> &'static str {
     match place {
-        Place::ROW9_WRITE => say(b"row 9 write phase Sweep"),
-        Place::ROW10_LOOK => say(b"row 10 look"),
-        Place::ROW10_FREE => say(b"row 10 free"),
-        Place::ROW11_WRITE => say(b"row 11 write phase Idle"),
-        _ => say(b"?"),
+        Place::ROW9_WRITE => "row 9 write phase Sweep",
+        Place::ROW10_LOOK => "row 10 look",
+        Place::ROW10_FREE => "row 10 free",
+        Place::ROW11_WRITE => "row 11 write phase Idle",
+        _ => "?",
     }
 }
 
-fn collector(place: u8) {
+fn collector(place: u8) -> &'static str {
     if place <= Place::ROW5_ROUND {
-        rows_1_to_5(place);
+        rows_1_to_5(place)
     } else if place <= Place::ROW8_TAKE {
-        rows_6_to_8(place);
+        rows_6_to_8(place)
     } else {
-        rows_9_to_11(place);
+        rows_9_to_11(place)
     }
 }
 
-fn mark(stage: u8) {
+fn mark(stage: u8) -> &'static str {
     match stage {
-        MarkStage::LOOK => say(b"look"),
-        MarkStage::SENSE => say(b"read fM"),
-        MarkStage::PHASE => say(b"read phase"),
-        MarkStage::LOCK => say(b"lock"),
-        MarkStage::AGAIN => say(b"look again"),
-        MarkStage::WRITE => say(b"write"),
-        MarkStage::UNLOCK => say(b"unlock"),
-        _ => say(b"?"),
+        MarkStage::LOOK => "look",
+        MarkStage::SENSE => "read fM",
+        MarkStage::PHASE => "read phase",
+        MarkStage::LOCK => "lock",
+        MarkStage::AGAIN => "look again",
+        MarkStage::WRITE => "write",
+        MarkStage::UNLOCK => "unlock",
+        _ => "?",
     }
 }
 
-fn round(stage: u8) {
+fn round(stage: u8) -> &'static str {
     match stage {
-        RoundStage::FENCE => say(b"fence"),
-        RoundStage::TYPE => say(b"set type"),
-        RoundStage::RAISE => say(b"raise"),
-        RoundStage::POLL => say(b"poll"),
-        _ => say(b"?"),
+        RoundStage::FENCE => "fence",
+        RoundStage::TYPE => "set type",
+        RoundStage::RAISE => "raise",
+        RoundStage::POLL => "poll",
+        _ => "?",
     }
 }
 
-fn operation(op: u8) {
+fn operation(op: u8) -> &'static str {
     match op {
-        0 => say(b"allocate"),
-        1 => say(b"drop root"),
-        2 => say(b"read"),
-        3 => say(b"store"),
-        4 => say(b"fence"),
-        5 => say(b"answer"),
-        _ => say(b"?"),
+        0 => "allocate",
+        1 => "drop root",
+        2 => "read",
+        3 => "store",
+        4 => "fence",
+        5 => "answer",
+        _ => "?",
     }
 }
 
 // The stage inside a mark or a round; elsewhere there is none.
-fn stage(q: Process) {
+fn stage(rt: &impl Print, q: Process) -> io::Result<()> {
     let place = q.place;
     match place {
         Place::STORE_MARK_OLD | Place::STORE_MARK_Y | Place::ROOTS_MARK | Place::ROW7_MARK => {
-            say(b", ");
-            mark(q.stage);
+            print!(rt; ", {}", mark(q.stage))
         }
         Place::ROW1_ROUND
         | Place::ROW3_ROUND
         | Place::ROW4_ROUND
         | Place::ROW5_ROUND
         | Place::ROW6_ROUND
-        | Place::ROW8_ROUND => {
-            say(b", ");
-            round(q.stage);
-        }
-        _ => {}
+        | Place::ROW8_ROUND => { print!(rt; ", {}", round(q.stage)) }
+        _ => Ok(()),
     }
 }
 
-pub(crate) fn place(q: Process) {
+pub(crate) fn place(rt: &impl Print, q: Process) -> io::Result<()> {
     if q.place <= Place::WORK_FINISH {
-        mutator(q.place);
+        print!(rt; "{}", mutator(q.place))?;
     } else {
-        collector(q.place);
+        print!(rt; "{}", collector(q.place))?;
     }
-    stage(q);
+    stage(rt, q)
 }
 
 // Whose step it is, and which: a commit, an operation at top, else the place.
-pub(crate) fn step(c: Choice, q: Process) {
+pub(crate) fn step(rt: &impl Print, c: Choice, q: Process) -> io::Result<()> {
     if c.process == 0 {
-        say(b"collector ");
+        print!(rt; "collector ")?;
     } else {
-        say(b"mutator ");
-        tell(c.process);
+        print!(rt; "mutator {} ", c.process)?;
     }
     if c.kind == Choice::COMMIT {
-        say(b"commit");
+        print!(rt; "commit")
     } else if q.place == Place::TOP {
-        operation(c.op);
+        print!(rt; "{}", operation(c.op))
     } else {
-        place(q);
+        place(rt, q)
     }
 }

@@ -4,6 +4,7 @@ use memory::Memory;
 use state::codes::{MarkStage, Place};
 use state::opening::Heap;
 use state::{Process, State};
+use std::io;
 
 // Six cells, of which 1 to 4 are occupied: 1 names 2 and 3, and 2 names 4. Two mutators: the first has the root 1,
 // the second none.
@@ -75,17 +76,13 @@ pub(crate) fn greying(y: u8) -> Process {
     q
 }
 
-pub(crate) fn show(s: State) {
+pub(crate) fn show(rt: &impl Print, s: State) -> io::Result<()> {
     let f = verdict::states::finding(s);
-    io::write_all(1, b" ");
-    io::print_decimal(1, f.verdict as u64);
-    io::write_all(1, b" ");
-    io::print_decimal(1, f.number as u64);
+    print!(rt; " {} {}", f.verdict, f.number)
 }
 
-pub(crate) fn say(name: &[u8], s: State) {
-    io::write_all(1, name);
-    io::write_all(1, b":");
-    show(s);
-    io::write_all(1, b"\n");
+pub(crate) fn say(rt: &impl Print, name: &str, s: State) -> io::Result<()> {
+    print!(rt; "{name}:")?;
+    show(rt, s)?;
+    println!(rt)
 }

@@ -3,6 +3,7 @@
 // raised.
 use super::ground;
 use state::{Handshake, Part, RoundType, State, System};
+use std::io;
 
 // The ground with these hands, and each mutator with its part.
 fn shaking(kind: RoundType, system: Handshake, one: Part, two: Part) -> State {
@@ -28,150 +29,173 @@ fn part(raised: bool, in_step: bool, phase: Handshake) -> Part {
     }
 }
 
-fn line(name: &[u8], in_step: bool, kind: RoundType, system: Handshake, mutator: Handshake) {
+fn line(
+    rt: &impl Print,
+    name: &str,
+    in_step: bool,
+    kind: RoundType,
+    system: Handshake,
+    mutator: Handshake,
+) -> io::Result<()> {
     let on = part(false, in_step, mutator);
     let further = part(false, in_step, mutator.next());
     let other = part(false, !in_step, mutator);
     let raised = part(true, in_step, mutator);
-    io::write_all(1, name);
-    io::write_all(1, b":");
-    ground::show(shaking(kind, system, on, on));
-    ground::show(shaking(kind, system, on, further));
-    ground::show(shaking(kind, system, other, on));
-    ground::show(shaking(kind, system, raised, on));
-    io::write_all(1, b"\n");
+    print!(rt; "{name}:")?;
+    ground::show(rt, shaking(kind, system, on, on))?;
+    ground::show(rt, shaking(kind, system, on, further))?;
+    ground::show(rt, shaking(kind, system, other, on))?;
+    ground::show(rt, shaking(kind, system, raised, on))?;
+    println!(rt)
 }
 
 // "In step: no-op with both phases equal and one of Idle, IdleInit, InitMark, Mark; roots or work with both
 // IdleMarkSweep."
 // On the line 0; a phase further mutator 2 is out; not in step, mutator 1 is out, but for work, whose two lines have
 // the same phases; "A raised flag implies not in step."
-pub(crate) fn in_step() {
-    noop_in_step();
+pub(crate) fn in_step(rt: &impl Print) -> io::Result<()> {
+    noop_in_step(rt)?;
     line(
-        b"in step, roots",
+        rt,
+        "in step, roots",
         true,
         RoundType::Roots,
         Handshake::IdleMarkSweep,
         Handshake::IdleMarkSweep,
-    );
+    )?;
     line(
-        b"in step, work",
+        rt,
+        "in step, work",
         true,
         RoundType::Work,
         Handshake::IdleMarkSweep,
         Handshake::IdleMarkSweep,
-    );
+    )
 }
 
 // The no-op lines of those in step.
-fn noop_in_step() {
+fn noop_in_step(rt: &impl Print) -> io::Result<()> {
     line(
-        b"in step, no-op, Idle",
+        rt,
+        "in step, no-op, Idle",
         true,
         RoundType::Noop,
         Handshake::Idle,
         Handshake::Idle,
-    );
+    )?;
     line(
-        b"in step, no-op, IdleInit",
+        rt,
+        "in step, no-op, IdleInit",
         true,
         RoundType::Noop,
         Handshake::IdleInit,
         Handshake::IdleInit,
-    );
+    )?;
     line(
-        b"in step, no-op, InitMark",
+        rt,
+        "in step, no-op, InitMark",
         true,
         RoundType::Noop,
         Handshake::InitMark,
         Handshake::InitMark,
-    );
+    )?;
     line(
-        b"in step, no-op, Mark",
+        rt,
+        "in step, no-op, Mark",
         true,
         RoundType::Noop,
         Handshake::Mark,
         Handshake::Mark,
-    );
+    )
 }
 
 // "Not in step (system, mutator): no-op with (Idle, IdleMarkSweep), (IdleInit, Idle), (InitMark, IdleInit), (Mark,
 // InitMark); roots with (IdleMarkSweep, Mark); work with both IdleMarkSweep." A raised flag is right here.
-pub(crate) fn not_in_step() {
-    noop_not_in_step();
+pub(crate) fn not_in_step(rt: &impl Print) -> io::Result<()> {
+    noop_not_in_step(rt)?;
     line(
-        b"not in step, roots",
+        rt,
+        "not in step, roots",
         false,
         RoundType::Roots,
         Handshake::IdleMarkSweep,
         Handshake::Mark,
-    );
+    )?;
     line(
-        b"not in step, work",
+        rt,
+        "not in step, work",
         false,
         RoundType::Work,
         Handshake::IdleMarkSweep,
         Handshake::IdleMarkSweep,
-    );
+    )
 }
 
 // The no-op lines of those not in step.
-fn noop_not_in_step() {
+fn noop_not_in_step(rt: &impl Print) -> io::Result<()> {
     line(
-        b"not in step, no-op, Idle",
+        rt,
+        "not in step, no-op, Idle",
         false,
         RoundType::Noop,
         Handshake::Idle,
         Handshake::IdleMarkSweep,
-    );
+    )?;
     line(
-        b"not in step, no-op, IdleInit",
+        rt,
+        "not in step, no-op, IdleInit",
         false,
         RoundType::Noop,
         Handshake::IdleInit,
         Handshake::Idle,
-    );
+    )?;
     line(
-        b"not in step, no-op, InitMark",
+        rt,
+        "not in step, no-op, InitMark",
         false,
         RoundType::Noop,
         Handshake::InitMark,
         Handshake::IdleInit,
-    );
+    )?;
     line(
-        b"not in step, no-op, Mark",
+        rt,
+        "not in step, no-op, Mark",
         false,
         RoundType::Noop,
         Handshake::Mark,
         Handshake::InitMark,
-    );
+    )
 }
 
 // Phases that go together, of a type that does not have them: both mutators are out, and 1 is the least.
-pub(crate) fn phases() {
+pub(crate) fn phases(rt: &impl Print) -> io::Result<()> {
     let sweep = part(false, true, Handshake::IdleMarkSweep);
     ground::say(
-        b"no-op with both IdleMarkSweep",
+        rt,
+        "no-op with both IdleMarkSweep",
         shaking(RoundType::Noop, Handshake::IdleMarkSweep, sweep, sweep),
-    );
+    )?;
     let idle = part(false, true, Handshake::Idle);
     ground::say(
-        b"roots with both Idle",
+        rt,
+        "roots with both Idle",
         shaking(RoundType::Roots, Handshake::Idle, idle, idle),
-    );
+    )?;
     let mark = part(false, false, Handshake::Mark);
     ground::say(
-        b"no-op with IdleMarkSweep and Mark",
+        rt,
+        "no-op with IdleMarkSweep and Mark",
         shaking(RoundType::Noop, Handshake::IdleMarkSweep, mark, mark),
-    );
+    )?;
     ground::say(
-        b"work with IdleMarkSweep and Mark",
+        rt,
+        "work with IdleMarkSweep and Mark",
         shaking(RoundType::Work, Handshake::IdleMarkSweep, mark, mark),
-    );
+    )?;
     // the one mutator that is right does not hide the other
     ground::say(
-        b"roots, mutator 2 alone out",
+        rt,
+        "roots, mutator 2 alone out",
         shaking(RoundType::Roots, Handshake::IdleMarkSweep, mark, idle),
-    );
+    )
 }

@@ -8,14 +8,16 @@ mod held;
 mod lines;
 mod several;
 
-fn main() {
-    held::all();
-    held::chains();
-    colours::all();
-    colours::greys();
-    lines::in_step();
-    lines::not_in_step();
-    lines::phases();
-    several::all();
-    several::malformed();
+use std::io;
+
+fn main(rt: HostRuntime) -> io::Result<()> {
+    held::all(&rt)?;
+    held::chains(&rt)?;
+    colours::all(&rt)?;
+    colours::greys(&rt)?;
+    lines::in_step(&rt)?;
+    lines::not_in_step(&rt)?;
+    lines::phases(&rt)?;
+    several::all(&rt)?;
+    several::malformed(&rt)
 }
