@@ -1,7 +1,6 @@
--- A test of every number below n: what a loop over the numbers knows, turn by turn, and what is known of each.
-use Prim.Native.Nat.{ℕ, zero, suc, ◌+◌, ◌≤◌, ◌<◌}
+-- A test of every number below n: that it fails at one, and what is known of each.
+use Prim.Native.Nat.{ℕ, zero, suc, ◌<◌}
 use native.Mathlib.Decide.{ℕ_discrete}
-use native.Mathlib.Numerals.{add-one}
 use native.Mathlib.Omega.{arith}
 use mathlib.Core.Path.{◌≡◌, refl, sym}
 use mathlib.Core.Bool.{Bool, true, false, false≢true}
@@ -22,9 +21,6 @@ and-false true = refl
 and-false false = refl
 
 module _ (t : ℕ → Bool) where
-  pub every_more : (i : ℕ) (b : Bool) → every i t ≡ true → b ≡ t i → b ≡ true → every (i + 1) t ≡ true
-  every_more i b a e h = rw (add-one, a, ← e, h) refl
-
   pub every_fails : (n i : ℕ) (b : Bool) → i < n → b ≡ t i → b ≡ false → false ≡ every n t
   every_fails zero i b l e h = absurd (omega arith)
   every_fails (suc n) i b l e h = go (λ k. every_fails n i b k e h) (ℕ_discrete i n)
@@ -32,9 +28,6 @@ module _ (t : ℕ → Bool) where
       go : (i < n → false ≡ every n t) → Dec (i ≡ n) → false ≡ every n t and t n
       go f (yes q) = rw (← q, ← e, h) (sym (and-false (every i t)))
       go f (no q) = rw (← f (omega arith)) refl
-
-  pub every_done : (n i : ℕ) → i ≤ n → n ≤ i → every i t ≡ true → true ≡ every n t
-  every_done n i a b h = let e : n ≡ i = omega arith in rw e (sym h)
 
   pub every_at : (n i : ℕ) → every n t ≡ true → i < n → t i ≡ true
   every_at zero i h l = absurd (omega arith)

@@ -1,6 +1,9 @@
 pub mod Picks
+pub mod Errors
 pub mod Picking
 pub mod Bits
 pub mod Everies
 pub mod Lists
 pub mod Answers
+pub mod Choices
+pub mod Alls

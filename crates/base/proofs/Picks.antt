@@ -1,5 +1,5 @@
 -- What a value is equal to a `pick` by: the test, as a branch of the code tells it, and the value picked.
---     picks      the set, for `search (needs, picks)`
+--     picks      the set, for `search (rules, picks)` and `#[tactic(auto, using(base::proofs::Picks::picks), unfolding(..))]`
 use Prim.Native.Nat.{ℕ, ◌≤◌, ◌<◌}
 use mathlib.Core.Bool.{Bool, true, false, not}
 use mathlib.Core.Path.{◌≡◌, sym, ◌∙◌}

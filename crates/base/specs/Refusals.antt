@@ -1,6 +1,10 @@
 -- "When the judge says no": why a step is refused, and why a run ends, by number; 0 where it is taken, or where the
 -- log ends. Assumes nothing.
-use Rattle.std.specs.Prelude.{ℕ}
+use Rattle.std.specs.Prelude.{ℕ, Result, Ok, Err}
+use Rattle.base.specs.declared.Refusal.{Refusal}
+use Rattle.base.specs.declared.Refusal.TheVariants as refusal
+use Rattle.base.specs.declared.Stop.{Stop}
+use Rattle.base.specs.declared.Stop.TheVariants as stop
 
 abbrev pub as_taken : ℕ
 as_taken = 0
@@ -58,3 +62,34 @@ wrong_check = 13
 
 abbrev pub few_left : ℕ
 few_left = 14
+
+-- ---- the code's answers by these numbers
+-- a refusal's
+abbrev pub refusal_number : Refusal → ℕ
+refusal_number refusal.Malformed = by_malformed
+refusal_number refusal.NoProcess = by_no_process
+refusal_number refusal.NoKind = by_no_kind
+refusal_number refusal.NotOffered = by_not_offered
+refusal_number refusal.NonePending = by_none_pending
+refusal_number refusal.FlagDown = by_flag_down
+refusal_number refusal.Blocked = by_blocked
+refusal_number refusal.Pending = by_pending
+refusal_number refusal.Full = by_full
+refusal_number refusal.Occupied = by_occupied
+refusal_number refusal.Free = by_free
+
+-- a stop's: "Its number is the refusal's"
+abbrev pub stop_by : Refusal → Stop
+stop_by r = stop.Refused r
+
+abbrev pub stop_number : Stop → ℕ
+stop_number stop.Ended = as_taken
+stop_number (stop.Refused r) = refusal_number r
+stop_number stop.NotAdmitted = not_admitted
+stop_number stop.WrongCheck = wrong_check
+stop_number stop.FewLeft = few_left
+
+-- an answer's: 0 where it is taken
+abbrev pub number_of : {A : Type 0} → Result A Refusal → ℕ
+number_of (Ok x) = as_taken
+number_of (Err r) = refusal_number r

@@ -1,57 +1,63 @@
-// What every crate above shares: one test of two bits here, and in specs/ and proofs/ how a choice, a loop and a
-// joined test are said and proved.
+// What every crate above shares: why a step is refused and why a run ends, by document 01's numbers; in specs/ and
+// proofs/ how a choice, a loop and a joined test are said and proved.
 #![tactic(auto)]
 
 ghost use Rattle.std.specs.Prelude.{◌≡◌};
-ghost use Rattle.base.specs.Pick.{same_bit};
+ghost use Rattle.base.specs.Refusals.{refusal_number, stop_number, stop_by};
 
-// The two bits are the same.
-pub fn same(a: bool, b: bool) -> bool
-    ensures { result ≡ same_bit a b }
-{
-    a == b
+// Why a step is refused: document 01's reasons, in the order of their numbers.
+#[derive(Clone, Copy, PartialEq, Eq)]
+pub enum Refusal {
+    Malformed = 1,
+    NoProcess,
+    NoKind,
+    NotOffered,
+    NonePending,
+    FlagDown,
+    Blocked,
+    Pending,
+    Full,
+    Occupied,
+    Free,
 }
 
-// Why a step is refused: document 01's numbers, and 0 where it is taken.
-#[derive(Clone, Copy)]
-pub struct Refusal;
-
-// Why a run ends, besides a refused record: its number then is the refusal's.
-#[derive(Clone, Copy)]
-pub struct Stop;
-
-impl Refusal {
-    pub const TAKEN: u8 = 0;
-
-    pub const MALFORMED: u8 = 1;
-
-    pub const NO_PROCESS: u8 = 2;
-
-    pub const NO_KIND: u8 = 3;
-
-    pub const NOT_OFFERED: u8 = 4;
-
-    pub const NONE_PENDING: u8 = 5;
-
-    pub const FLAG_DOWN: u8 = 6;
-
-    pub const BLOCKED: u8 = 7;
-
-    pub const PENDING: u8 = 8;
-
-    pub const FULL: u8 = 9;
-
-    pub const OCCUPIED: u8 = 10;
-
-    pub const FREE: u8 = 11;
+// Why a run ends: with its log, by a refusal, or by the log's form.
+#[derive(Clone, Copy, PartialEq, Eq)]
+pub enum Stop {
+    Ended,
+    Refused(Refusal),
+    NotAdmitted,
+    WrongCheck,
+    FewLeft,
 }
 
-impl Stop {
-    pub const ENDED: u8 = 0;
+impl From<Refusal> for u8 {
+    ghost from_gives = { λ r n. n ≡ refusal_number r };
 
-    pub const NOT_ADMITTED: u8 = 12;
+    fn from(why: Refusal) -> u8 {
+        why as u8
+    }
+}
 
-    pub const WRONG_CHECK: u8 = 13;
+impl From<Refusal> for Stop {
+    ghost from_gives = { λ r s. s ≡ stop_by r };
 
-    pub const FEW_LEFT: u8 = 14;
+    fn from(why: Refusal) -> Stop {
+        Stop::Refused(why)
+    }
+}
+
+impl From<Stop> for u8 {
+    ghost from_gives = { λ s n. n ≡ stop_number s };
+
+    // "Its number is the refusal's"; else one of the log's own.
+    fn from(stop: Stop) -> u8 {
+        match stop {
+            Stop::Ended => 0,
+            Stop::Refused(refusal) => refusal.into(),
+            Stop::NotAdmitted => 12,
+            Stop::WrongCheck => 13,
+            Stop::FewLeft => 14,
+        }
+    }
 }

@@ -4,6 +4,7 @@
 --     push_room, push_full         a push is taken exactly while fewer than `max_stores` are pending, refused exactly
 --                                  if `max_stores` are
 --     push_last, push_same         a push that is taken appends; one that is refused leaves the buffer
+--     turned                       how the code leaves out the oldest
 --     pop_oldest, pop_none         a pop takes the oldest and leaves the others; of nothing it is refused, and leaves
 --                                  the buffer
 --     empty_pending                an empty buffer has none pending
@@ -17,13 +18,12 @@ use mathlib.Core.Logic.{◌↔◌, ◌⊎◌, inl, inr, ⊎_elim, by_cases}
 use mathlib.Core.List.{List, [], ◌∷◌, ◌++◌}
 use native.Mathlib.Decide.{dec_lt}
 use lib.ListN.{length, take, drop, set, get_or, length-drop, length-append, length-set}
-use lib.Seq.{take-suc-set, take-append-le, length-take-le}
+use lib.Seq.{take-suc-set, take-append-le, length-take-le, set-append_seam}
 use borrow.Author.Tests.{lt-leb, le-leb, ne_eqb, eq-eqb}
 use Rattle.buffers.specs.declared.Buffer.{Buffer}
 use Rattle.buffers.specs.declared.Entry.{Entry}
-use Rattle.buffers.specs.declared.Pushed.{Pushed}
 use Rattle.buffers.specs.Stores.{no_entry}
-use Rattle.buffers.specs.Buffers.{max_stores, empty_buffer, pending_of, push_of, pop_of}
+use Rattle.buffers.specs.Buffers.{max_stores, empty_buffer, pending_of, Pushed, push_of, pop_of}
 pub use Rattle.buffers.specs.Sizes.{Sized}
 
 pub pending_length : (b : Buffer) → Sized b → length (pending_of b) ≡ b.len
@@ -73,6 +73,11 @@ module _ (b : Buffer) (e : Entry) where
   push_sized z = ⊎_elim (λ l. rw (room l) (record { entries = length-set b.entries b.len e ∙ z.entries; len = omega arith })) (λ l. rw (full l) z) (lt_or_le b.len max_stores)
 
 -- ---- pop
+-- the oldest turned to the last place, and there replaced
+pub turned : (l : List Entry) (n : ℕ) (v : Entry) → length l ≡ n + 1 → set (drop 1 l ++ take 1 l) n v ≡ drop 1 l ++ (v ∷ [])
+turned [] n v h = absurd (omega arith)
+turned (x ∷ l) n v h = let e : length l ≡ n = omega arith in rw (← e) (set-append_seam l x [] v)
+
 first_is : (n : ℕ) (l : List Entry) {e : Entry} {es : List Entry} → take n l ≡ e ∷ es → get_or l 0 no_entry ≡ e
 first_is zero l h = cc
 first_is (suc n) [] h = cc

@@ -1,18 +1,21 @@
 -- Which spots a store hits: its own, and no other. Assumes nothing.
 --     hits_spot, hits_own, hits_other     a store hits a spot exactly if it is the one that it writes
 --     hits_is                             the same as one law
+--     spots_equal                         the code's `==` of two spots is `same_spot`
 --     hits_apart                          two spots that differ in kind, cell or field are not hit by one store
 use mathlib.Core.Path.{◌≡◌, refl, sym, ◌∙◌, ap}
-use mathlib.Core.Bool.{true, false}
+use mathlib.Core.Bool.{Bool, true, false, ◌&&◌}
 use mathlib.Core.Logic.{◌↔◌}
 use Prim.Native.Nat.{ℕ}
 use lib.Dec.{eqb}
 use borrow.Author.Tests.{eqb-true, eq-eqb}
 use Rattle.base.specs.Pick.{pick}
+use Rattle.base.specs.Every.{◌and◌}
 use Rattle.base.proofs.Everies.{and_both}
 use Rattle.buffers.specs.declared.Spot.{Spot}
 use Rattle.buffers.specs.declared.Spot.TheVariants as spot
 use Rattle.buffers.specs.declared.Store.{Store}
+use Rattle.buffers.specs.contracts.SpotPartialEq.TheImpl as spots
 use Rattle.buffers.specs.Stores.{spot_of, kind_of, spot_cell_of, spot_field_of, same_spot, hits_of}
 
 -- a spot is named by its kind, its cell and its field
@@ -34,6 +37,23 @@ same_spot_lem a b h =
 
 spot_same : (a : Spot) → same_spot a a ≡ true
 spot_same a = rw (eq-eqb (kind_of a) (kind_of a) refl, eq-eqb (spot_cell_of a) (spot_cell_of a) refl, eq-eqb (spot_field_of a) (spot_field_of a) refl)
+
+both_ways : (a b : Bool) → (a && b) ≡ (a and b)
+both_ways true b = refl
+both_ways false b = refl
+
+with_true : (a : Bool) → a ≡ (a and true)
+with_true true = refl
+with_true false = refl
+
+-- the derived comparison goes by kind, cell and field
+pub spots_equal : (a b : Spot) → (spots.ghosts).eq a b ≡ same_spot a b
+spots_equal (spot.Mark c) (spot.Mark d) = with_true (eqb c d)
+spots_equal (spot.Field c f) (spot.Field d g) = both_ways (eqb c d) (eqb f g)
+spots_equal spot.Sense spot.Sense = refl
+spots_equal spot.AllocSense spot.AllocSense = refl
+spots_equal spot.Phase spot.Phase = refl
+spots_equal _ _ = refl
 
 pub hits_spot : (at : Spot) (s : Store) → hits_of at s ≡ true → spot_of s ≡ at
 unfolding hits_of

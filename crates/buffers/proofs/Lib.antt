@@ -1,4 +1,5 @@
 pub mod Hits
+pub mod Pops
 pub mod Newests
 pub mod Nearest
 pub mod Fifos

@@ -1,5 +1,5 @@
 -- Where the newest store to a spot stands in a list of entries, oldest first. Assumes nothing.
---     source_more        one more entry that a loop goes through
+--     place_found, place_none     a search from the newest on finds the newest, or that none is to the spot
 --     own_exactly        it is the own store at place i exactly if entry i is to the spot and no newer one is
 --     own_value          and then what is seen is that entry's
 --     memory_exactly     it is memory exactly if none is to the spot
@@ -12,37 +12,21 @@ use mathlib.Core.List.{List, [], ◌∷◌, Memᴰ}
 use mathlib.Core.Logic.{⊎_elim}
 use Prim.Native.Nat.{ℕ, zero, suc, ◌+◌, ◌<◌}
 use native.Mathlib.Nat.{not-suc-le-zero, le_of_suc-le-suc}
-use native.Mathlib.Numerals.{add-one}
 use native.Mathlib.Decide.{dec_lt}
 use native.Mathlib.Omega.{arith}
-use lib.ListN.{length, take, get_or}
+use lib.ListN.{length, get_or}
+use Rattle.std.specs.Prelude.{Option, None, Some, IfNone, IfSome, unwrap_or}
 use Rattle.base.specs.Pick.{pick}
 use Rattle.buffers.specs.declared.Spot.{Spot}
 use Rattle.buffers.specs.declared.Store.{Store}
 use Rattle.buffers.specs.declared.Entry.{Entry}
-use Rattle.buffers.specs.declared.Newest.TheVariants.{Nothing}
 use Rattle.buffers.specs.declared.sources.Source.{Source}
 use Rattle.buffers.specs.declared.sources.Source.TheVariants as source
 use Rattle.buffers.specs.Stores.{no_entry, spot_of, hits_of}
-use Rattle.buffers.specs.Buffers.{newest_of, store_or_of}
+use Rattle.buffers.specs.Buffers.{newest_of}
 use Rattle.buffers.specs.Sources.{nearer_of, source_from, source_in, Unhit, NewestAt, OwnExactly, OwnValue, MemoryExactly}
 use Rattle.buffers.proofs.Hits.{hits_spot, hits_own, hits_other}
 use Rattle.buffers.proofs.Newests.{newest_first, newest_none}
-
--- ---- as a loop finds it
-module _ (at : Spot) where
-  source_suc : (k : ℕ) (f : Source) (l : List Entry) (i : ℕ) → i < length l → source_from at k f (take (suc i) l) ≡ nearer_of at (k + i) (source_from at k f (take i l)) (get_or l i no_entry)
-  source_suc k f [] i h = absurd (not-suc-le-zero h)
-  source_suc k f (e ∷ l) zero h = let z : k ≡ k + 0 = omega arith in ap (λ j. nearer_of at j f e) z
-  source_suc k f (e ∷ l) (suc i) h =
-      let z : suc k + i ≡ k + suc i = omega arith in
-      source_suc (suc k) (nearer_of at k f e) l i (le_of_suc-le-suc h)
-      ∙ ap (λ j. nearer_of at j (source_from at (suc k) (nearer_of at k f e) (take i l)) (get_or l i no_entry)) z
-
-  pub source_more : {r s : Source} (l : List Entry) (i : ℕ) → i < length l → r ≡ source_in at (take i l) → s ≡ nearer_of at i r (get_or l i no_entry) → s ≡ source_in at (take (i + 1) l)
-  source_more l i h e q =
-      let z : i ≡ 0 + i = omega arith in
-      q ∙ rw (e, add-one) (ap (λ j. nearer_of at j (source_in at (take i l)) (get_or l i no_entry)) z ∙ sym (source_suc 0 source.Memory l i h))
 
 -- ---- by position
 member_at : (l : List Entry) (i : ℕ) → i < length l → Memᴰ (get_or l i no_entry) l
@@ -149,14 +133,32 @@ memory_exactly at es = (λ e. told (source_in at es) (found at 0 source.Memory e
     holds r (none v) u = refl
     holds r (some j n q m) u = absurd (u (get_or es j no_entry) (member_at es j m.there) m.hits)
 
+-- ---- as a search finds it
+none_hit : (at : Spot) (l : List Entry) → ((k : ℕ) → k < length l → hits_of at (get_or l k no_entry).store ≡ false) → Unhit at l
+none_hit at [] a = λ e i. absurd (Memᴰ.not-nil i)
+none_hit at (x ∷ l) a = unhit at x l (a 0 (omega arith)) (none_hit at l (λ k m. a (suc k) (suc_below m)))
+
+module _ (at : Spot) (es : List Entry) where
+  abbrev missed : ℕ → Type 0
+  missed k = hits_of at (get_or es k no_entry).store ≡ false
+
+  pub place_found : (r : Option ℕ) → IfSome r (λ i. i < length es) → IfSome r (λ i. hits_of at (get_or es i no_entry).store ≡ true) → IfSome r (λ i. (k : ℕ) → i < k → k < length es → missed k) → IfSome r (NewestAt at es)
+  place_found None a b c = tt
+  place_found (Some i) a b c =
+      record { there = a; hits = hits_spot at (get_or es i no_entry).store b; last = λ k l m q. false≢true (sym (c k l m) ∙ hit at (get_or es k no_entry).store q) }
+
+  pub place_none : (r : Option ℕ) → IfNone r ((k : ℕ) → k < length es → missed k) → IfNone r (Unhit at es)
+  place_none (Some i) a = tt
+  place_none None a = none_hit at es a
+
 -- ---- what is seen
-unseen : (at : Spot) (es : List Entry) (other : Store) → ((j : ℕ) → j < length es → spot_of (get_or es j no_entry).store ≡ at → ⊥) → store_or_of (newest_of at es) other ≡ other
+unseen : (at : Spot) (es : List Entry) (other : Store) → ((j : ℕ) → j < length es → spot_of (get_or es j no_entry).store ≡ at → ⊥) → unwrap_or (newest_of at es) other ≡ other
 unseen at [] other u = refl
 unseen at (e ∷ es) other u =
     let z : hits_of at e.store ≡ false = hits_other at e.store (u 0 (omega arith)) in
     newest_first at e es other ∙ rw z (unseen at es other (λ j l. u (suc j) (suc_below l)))
 
-newest_at : (at : Spot) (es : List Entry) (i : ℕ) (other : Store) → NewestAt at es i → store_or_of (newest_of at es) other ≡ (get_or es i no_entry).store
+newest_at : (at : Spot) (es : List Entry) (i : ℕ) (other : Store) → NewestAt at es i → unwrap_or (newest_of at es) other ≡ (get_or es i no_entry).store
 newest_at at [] i other n = absurd (not-suc-le-zero n.there)
 newest_at at (e ∷ es) zero other n =
     let z : hits_of at e.store ≡ true = hit at e.store n.hits in
@@ -166,8 +168,18 @@ newest_at at (e ∷ es) (suc i) other n =
     ∙ newest_at at es i (pick (hits_of at e.store) e.store other)
     (record { there = le_of_suc-le-suc n.there; hits = n.hits; last = λ j l k. n.last (suc j) (suc_below l) (suc_below k) })
 
+pub newest_found : (at : Spot) (es : List Entry) (i : ℕ) → NewestAt at es i → newest_of at es ≡ Some (get_or es i no_entry).store
+newest_found at es i n = go (newest_of at es) refl (newest_at at es i)
+  where
+    go : (r : Option Store) → newest_of at es ≡ r → ((other : Store) → NewestAt at es i → unwrap_or r other ≡ (get_or es i no_entry).store) → r ≡ Some (get_or es i no_entry).store
+    go None e f = absurd (false≢true (sym ((newest_none at es).0 e (get_or es i no_entry) (member_at es i n.there)) ∙ hit at (get_or es i no_entry).store n.hits))
+    go (Some s) e f = ap Some (f s n)
+
+pub newest_missed : (at : Spot) (es : List Entry) → Unhit at es → newest_of at es ≡ None
+newest_missed at es u = (newest_none at es).1 (λ e m. hits_other at e.store (u e m))
+
 pub own_value : OwnValue
 own_value at es i other e = newest_at at es i other ((own_exactly at es i).0 e)
 
-pub source_none : (at : Spot) (es : List Entry) → newest_of at es ≡ Nothing → source_in at es ≡ source.Memory
+pub source_none : (at : Spot) (es : List Entry) → newest_of at es ≡ None → source_in at es ≡ source.Memory
 source_none at es e = (memory_exactly at es).1 (λ x i q. false≢true (sym ((newest_none at es).0 e x i) ∙ hit at x.store q))

@@ -1,12 +1,14 @@
 -- Well-formed buffers: the test and the facts agree, and a buffer's steps keep them. Assumes nothing.
 --     cell_told, cell_test     a cell of 1 to n
+--     unused_equal             the code's `==` with the unused entry is the test
+--     every_is                 a test of each number below n, by its answer
 --     well_formed_lem          `buffer_fits_of` holds exactly if `BufferFits` does
---     empty_fits           the empty buffer is well formed
+--     empty_fits               the empty buffer is well formed
 --     none_pending_lem         a well-formed buffer with no store pending is the empty one
---     push_kept            kept by a push of a store that fits
---     pop_kept, pop_fits   kept by a pop, and the store popped fits
+--     push_kept                kept by a push of a store that fits
+--     pop_kept, pop_fits       kept by a pop, and the store popped fits
 use mathlib.Core.Path.{◌≡◌, refl, sym, ap, ◌∙◌}
-use mathlib.Core.Bool.{true, not, false≢true}
+use mathlib.Core.Bool.{Bool, true, false, not, beq, ◌&&◌, false≢true}
 use mathlib.Core.List.{List, [], ◌∷◌, ◌++◌}
 use mathlib.Core.Logic.{◌↔◌}
 use Prim.Native.Nat.{ℕ, zero, suc, ◌+◌, ◌≤◌, ◌<◌}
@@ -17,12 +19,13 @@ use lib.ListN.{length, get_or, set, drop, replicate, length-append, length-drop,
 use lib.Seq.{ext_get_or, get_or-set_same, get_or-set_other}
 use borrow.Author.Tests.{leb-true, ltb-true, eqb-true, not-true, lt-ltb, le-ltb, le-leb, lt-leb, eq-eqb, ne_eqb}
 use Rattle.base.specs.Every.{◌and◌, every}
-use Rattle.base.proofs.Everies.{and_both, every_at, every_all}
+use Rattle.base.proofs.Everies.{and_both, every_at, every_all, every_fails}
 use Rattle.base.proofs.Lists.{beyond}
 use Rattle.buffers.specs.declared.Store.{Store}
 use Rattle.buffers.specs.declared.Store.TheVariants as store
 use Rattle.buffers.specs.declared.Entry.{Entry}
 use Rattle.buffers.specs.declared.Buffer.{Buffer}
+use Rattle.buffers.specs.contracts.EntryPartialEq.TheImpl as entries
 use Rattle.buffers.specs.Stores.{no_store, no_entry}
 use Rattle.buffers.specs.Buffers.{max_stores, empty_buffer, push_of, pop_of}
 use Rattle.buffers.specs.Fits.{max_fields, IsCell, StoreFits, entry_of, BufferFits, is_cell_of, store_fits_of, store_empty_of, entry_at_of, buffer_fits_of}
@@ -47,6 +50,22 @@ store_test n (store.Field c f v) h = rw (cell_test n c h.0, lt-ltb f max_fields 
 store_test n (store.Sense b) h = refl
 store_test n (store.AllocSense b) h = refl
 store_test n (store.Phase p) h = refl
+
+-- the code compares with the unused entry
+pub unused_equal : (e x : Entry) → x ≡ no_entry → (entries.ghosts).eq e x ≡ store_empty_of e.store
+unused_equal e x q = rw q (go e.store)
+  where
+    unset : (a b : Bool) → (a && beq b false) ≡ (a and not b)
+    unset true true = refl
+    unset true false = refl
+    unset false b = refl
+
+    go : (s : Store) → (entries.ghosts).eq (record { store = s }) no_entry ≡ store_empty_of s
+    go (store.Mark c b) = unset (eqb c 0) b
+    go (store.Field c f v) = refl
+    go (store.Sense b) = refl
+    go (store.AllocSense b) = refl
+    go (store.Phase p) = refl
 
 empty_told : (s : Store) → store_empty_of s ≡ true → s ≡ no_store
 empty_told (store.Mark c b) e = let a = and_both (eqb c 0) (not b) e in rw (eqb-true c 0 a.0, not-true b a.1) refl
@@ -155,3 +174,8 @@ pop_kept n b w = go (ℕ_discrete b.len 0)
 pub pop_fits : (n : ℕ) (b : Buffer) → BufferFits n b → 0 < b.len → StoreFits n (pop_of b).entry.store
 unfolding pop_of
 pop_fits n b w h = rw (ne_eqb b.len 0 (λ q. omega arith)) (w.pending 0 h)
+
+-- a test of each number below n, told by its answer
+pub every_is : (t : ℕ → Bool) (b : Bool) (n : ℕ) → (b ≡ true → (k : ℕ) → k < n → true ≡ t k) → (b ≡ false → (k : ℕ) × (k < n) × (false ≡ t k)) → b ≡ every n t
+every_is t true n f g = sym (every_all t n (λ k l. sym (f refl k l)))
+every_is t false n f g = let w = g refl in every_fails t n w.0 false w.1 w.2 refl

@@ -1,14 +1,10 @@
 -- A buffer of pending stores, oldest first. Assumes nothing.
-use Rattle.std.specs.Prelude.{true, false, ℕ, ◌+◌, ◌-◌, List, [], ◌∷◌, ◌++◌, leb, eqb, get_or, set, drop, take, replicate}
+use Rattle.std.specs.Prelude.{Bool, true, false, Option, Some, None, ℕ, ◌+◌, ◌-◌, List, [], ◌∷◌, ◌++◌, leb, eqb, get_or, set, drop, take, replicate}
 use Rattle.base.specs.Pick.{pick, through}
 use Rattle.buffers.specs.declared.Store.{Store}
 use Rattle.buffers.specs.declared.Spot.{Spot}
 use Rattle.buffers.specs.declared.Entry.{Entry}
 use Rattle.buffers.specs.declared.Buffer.{Buffer}
-use Rattle.buffers.specs.declared.Pushed.{Pushed}
-use Rattle.buffers.specs.declared.Popped.{Popped}
-use Rattle.buffers.specs.declared.Newest.{Newest}
-use Rattle.buffers.specs.declared.Newest.TheVariants.{Nothing, Hit}
 use Rattle.buffers.specs.Stores.{no_entry, hits_of}
 
 -- "a FIFO buffer of at most 8 pending stores"
@@ -21,6 +17,16 @@ empty_buffer = record { entries = replicate max_stores no_entry; len = 0 }
 -- the pending stores as a list, "oldest store first"; all entries where the length is out of range
 abbrev pub pending_of : Buffer → List Entry
 pending_of b = take b.len b.entries
+
+-- what a push and a pop come to: taken, or refused with the buffer as it was
+pub record Pushed : Type 0 where
+  pub taken : Bool
+  pub buffer : Buffer
+
+pub record Popped : Type 0 where
+  pub taken : Bool
+  pub entry : Entry
+  pub buffer : Buffer
 
 -- "A write appends." Refused at `max_stores` pending, or more.
 unfoldable pub push_of : Buffer → Entry → Pushed
@@ -41,14 +47,18 @@ pop_of b =
       buffer = record { entries = drop 1 b.entries ++ (no_entry ∷ []); len = b.len - 1 };
     })
 
--- the store found, else the one given
-abbrev pub store_or_of : Newest → Store → Store
-store_or_of Nothing other = other
-store_or_of (Hit s) other = s
+-- the code's answers as these records: `None` is a refusal, at the buffer b that it leaves as it was
+abbrev pub pushed_as : Buffer → Option Buffer → Pushed
+pushed_as b None = record { taken = false; buffer = b }
+pushed_as b (Some n) = record { taken = true; buffer = n }
+
+abbrev pub popped_as : Buffer → Option (Entry × Buffer) → Popped
+popped_as b None = record { taken = false; entry = no_entry; buffer = b }
+popped_as b (Some (e, n)) = record { taken = true; entry = e; buffer = n }
 
 -- "the newest matching store": going from the oldest to the newest, the last that hits the spot counts
-abbrev pub newer_of : Spot → Newest → Entry → Newest
-newer_of at found e = pick (hits_of at e.store) (Hit e.store) found
+abbrev pub newer_of : Spot → Option Store → Entry → Option Store
+newer_of at found e = pick (hits_of at e.store) (Some e.store) found
 
-abbrev pub newest_of : Spot → List Entry → Newest
-newest_of at es = through (newer_of at) Nothing es
+abbrev pub newest_of : Spot → List Entry → Option Store
+newest_of at es = through (newer_of at) None es

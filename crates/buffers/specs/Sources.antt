@@ -1,6 +1,6 @@
 -- R-6: "the look that serves all reads is to say whether it saw the reader's own pending store or memory, with the
 -- place in the buffer, oldest counted as 0". Assumes nothing.
-use Rattle.std.specs.Prelude.{◌≡◌, ◌↔◌, ℕ, suc, ◌+◌, ◌<◌, ltb, length, get_or}
+use Rattle.std.specs.Prelude.{◌≡◌, ◌↔◌, unwrap_or, ℕ, suc, ◌+◌, ◌<◌, ltb, length, get_or}
 use mathlib.Core.List.{List, [], ◌∷◌, Memᴰ}
 use Rattle.base.specs.Pick.{pick}
 use Rattle.buffers.specs.declared.Spot.{Spot}
@@ -9,7 +9,7 @@ use Rattle.buffers.specs.declared.Entry.{Entry}
 use Rattle.buffers.specs.declared.sources.Source.{Source}
 use Rattle.buffers.specs.declared.sources.Source.TheVariants as source
 use Rattle.buffers.specs.Stores.{no_entry, spot_of, hits_of}
-use Rattle.buffers.specs.Buffers.{max_stores, newest_of, store_or_of}
+use Rattle.buffers.specs.Buffers.{max_stores, newest_of}
 
 -- going from the oldest to the newest, the last that hits the spot counts; i is the place of the entry
 abbrev pub nearer_of : Spot → ℕ → Source → Entry → Source
@@ -53,7 +53,7 @@ abbrev pub OwnExactly : Type 0
 OwnExactly = (at : Spot) (es : List Entry) (i : ℕ) → (source_in at es ≡ source.Own i) ↔ NewestAt at es i
 
 abbrev pub OwnValue : Type 0
-OwnValue = (at : Spot) (es : List Entry) (i : ℕ) (other : Store) → source_in at es ≡ source.Own i → store_or_of (newest_of at es) other ≡ (get_or es i no_entry).store
+OwnValue = (at : Spot) (es : List Entry) (i : ℕ) (other : Store) → source_in at es ≡ source.Own i → unwrap_or (newest_of at es) other ≡ (get_or es i no_entry).store
 
 -- "or memory", exactly if none is to the spot
 abbrev pub MemoryExactly : Type 0

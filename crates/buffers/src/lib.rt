@@ -5,12 +5,13 @@ mod ranges;
 pub mod sources;
 mod stores;
 
-ghost use Rattle.std.specs.Prelude.{◌≡◌, min};
+ghost use Rattle.std.specs.Prelude.{◌≡◌, min, IfNone, IfSome};
 ghost use Rattle.buffers.specs.Stores.{no_entry};
 ghost use Rattle.buffers.specs.Fits.{is_cell_of};
-ghost use Rattle.buffers.specs.Buffers.{max_stores, empty_buffer, pending_of, push_of, pop_of, newer_of, newest_of, store_or_of};
+ghost use Rattle.buffers.specs.Buffers.{max_stores, empty_buffer, pending_of, push_of, pop_of, pushed_as, popped_as, newest_of};
+ghost use Rattle.buffers.specs.Sources.{Unhit, NewestAt};
 
-#[derive(Clone, Copy)]
+#[derive(Clone, Copy, PartialEq, Eq)]
 pub enum Phase {
     Idle,
     Init,
@@ -19,7 +20,7 @@ pub enum Phase {
 }
 
 // "A pending store is a mark, a field, fM, fA or phase with its value." An unused entry is the first case at zeros.
-#[derive(Clone, Copy)]
+#[derive(Clone, Copy, PartialEq, Eq)]
 pub enum Store {
     Mark { cell: u8, bit: bool },
     Field { cell: u8, field: u8, value: u8 },
@@ -29,7 +30,7 @@ pub enum Store {
 }
 
 // What a store writes or a look reads.
-#[derive(Clone, Copy)]
+#[derive(Clone, Copy, PartialEq, Eq)]
 pub enum Spot {
     Mark(u8),
     Field { cell: u8, field: u8 },
@@ -38,49 +39,28 @@ pub enum Spot {
     Phase,
 }
 
-#[derive(Clone, Copy)]
+#[derive(Clone, Copy, PartialEq, Eq)]
 pub struct Entry {
     pub store: Store,
 }
 
-// The pending entries are the first `len`; the others are unused.
-#[derive(Clone, Copy)]
+// The pending entries are the first `len`; the others are unused. A length beside fixed places and no vector: refusal 1
+// tells of a length out of range and of what is not zero past it, and nothing here allocates.
+#[derive(Clone, Copy, PartialEq, Eq)]
 pub struct Buffer {
     pub entries: [Entry; Buffer::MAX],
     pub len: usize,
-}
-
-#[derive(Clone, Copy)]
-pub struct Pushed {
-    pub taken: bool,
-    pub buffer: Buffer,
-}
-
-#[derive(Clone, Copy)]
-pub struct Popped {
-    pub taken: bool,
-    pub entry: Entry,
-    pub buffer: Buffer,
-}
-
-// The newest pending store to a spot.
-#[derive(Clone, Copy)]
-pub enum Newest {
-    Nothing,
-    Hit(Store),
 }
 
 // c is one of the cells 1 to n.
 pub fn is_cell(n: u8, c: u8) -> bool
     ensures { result ≡ is_cell_of n c }
 {
-    if 0 < c {
-        return c <= n;
-    }
-    false
+    0 < c && c <= n
 }
 
 impl Entry {
+    // Not a derived `Default`, which takes no case with fields.
     pub fn empty() -> Entry
         ensures { result ≡ no_entry }
     {
@@ -100,99 +80,63 @@ impl Buffer {
     pub fn empty() -> Buffer
         ensures { result ≡ empty_buffer }
     {
-        let e = Entry::empty();
-        let entries = [e; Buffer::MAX];
-        Buffer { entries, len: 0 }
+        Buffer {
+            entries: [Entry::empty(); Buffer::MAX],
+            len: 0,
+        }
     }
 
     // "A write appends." A full buffer, or one whose length is out of range, refuses.
-    pub fn push(mut self, e: Entry) -> Pushed
-        ensures { result ≡ push_of self e }
+    #[tactic(auto, using(base::proofs::Picks::picks), unfolding(crate::specs::Buffers::push_of))]
+    pub fn push(mut self, e: Entry) -> Option<Buffer>
+        ensures { pushed_as self result ≡ push_of self e }
     {
-        let n = self.len;
-        if Buffer::MAX <= n {
-            return Pushed {
-                taken: false,
-                buffer: self,
-            };
+        if Buffer::MAX <= self.len {
+            return None;
         }
-        self.entries[n] = e;
-        self.len = n + 1;
-        Pushed {
-            taken: true,
-            buffer: self,
-        }
+        self.entries[self.len] = e;
+        self.len += 1;
+        Some(self)
     }
 
-    // The oldest entry, with the others one place down and the freed one cleared. An empty buffer refuses.
-    pub fn pop(mut self) -> Popped
-        ensures { result ≡ pop_of self }
+    // The oldest entry, and the buffer with the others one place down and the freed one cleared. An empty buffer
+    // refuses.
+    #[tactic(auto, using(base::proofs::Picks::picks), unfolding(crate::specs::Buffers::pop_of))]
+    pub fn pop(mut self) -> Option<(Entry, Buffer)>
+        ensures { popped_as self result ≡ pop_of self }
     {
-        let none = Entry::empty();
-        let n = self.len;
-        if n == 0 {
-            return Popped {
-                taken: false,
-                entry: none,
-                buffer: self,
-            };
+        if self.len == 0 {
+            return None;
         }
         let oldest = self.entries[0];
-        let mut i = 0;
-        while i < Buffer::MAX - 1 {
-            let next = self.entries[i + 1];
-            self.entries[i] = next;
-            i += 1;
-        }
-        self.entries[Buffer::MAX - 1] = none;
-        self.len = n - 1;
-        Popped {
-            taken: true,
-            entry: oldest,
-            buffer: self,
-        }
+        self.entries.rotate_left(1);
+        self.entries[Buffer::MAX - 1] = Entry::empty();
+        self.len -= 1;
+        Some((oldest, self))
     }
 
     // How many entries are pending: a length out of range counts as the whole.
     pub fn pending(self) -> usize
         ensures { result ≡ min self.len max_stores }
     {
-        let n = self.len;
-        if n < Buffer::MAX { n } else { Buffer::MAX }
+        self.len.min(Buffer::MAX)
     }
 
     // "The newest matching store": the last pending one that writes the spot.
-    pub fn newest(self, at: Spot) -> Newest
+    pub fn newest(self, at: Spot) -> Option<Store>
         ensures { result ≡ newest_of at (pending_of self) }
     {
-        let n = self.pending();
-        let mut found = Newest::Nothing;
-        let mut i = 0;
-        while i < n {
-            let e = self.entries[i];
-            found = found.newer(e, at);
-            i += 1;
-        }
-        found
-    }
-}
-
-impl Newest {
-    // What is found after one entry more.
-    fn newer(self, e: Entry, at: Spot) -> Newest
-        ensures { result ≡ newer_of at self e }
-    {
-        let s = e.store;
-        if s.hits(at) { Newest::Hit(s) } else { self }
+        let place = self.newest_place(at)?;
+        Some(self.entries[place].store)
     }
 
-    // The store found, else the one given.
-    pub fn store_or(self, other: Store) -> Store
-        ensures { result ≡ store_or_of self other }
+    // The place in the buffer of that store.
+    fn newest_place(self, at: Spot) -> Option<usize>
+        ensures none { IfNone result (Unhit at (pending_of self)) }
+        ensures found { IfSome result (NewestAt at (pending_of self)) }
     {
-        match self {
-            Newest::Nothing => other,
-            Newest::Hit(s) => s,
-        }
+        self.entries[..self.pending()]
+            .iter()
+            .rposition(|e| e.store.hits(at))
     }
 }

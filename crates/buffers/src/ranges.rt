@@ -1,6 +1,6 @@
 // Refusal 1, as far as a buffer goes: "a .. cell .. or buffer length out of range, or something unused not zero".
 ghost use Rattle.std.specs.Prelude.{◌≡◌};
-ghost use Rattle.buffers.specs.Fits.{store_fits_of, store_empty_of, entry_fits_of, buffer_fits_of};
+ghost use Rattle.buffers.specs.Fits.{store_fits_of, entry_fits_of, buffer_fits_of};
 
 use super::{Buffer, Entry, Spot, Store, is_cell};
 
@@ -16,56 +16,23 @@ impl Store {
         ensures { result ≡ store_fits_of n self }
     {
         match self {
-            Store::Mark { cell, bit: _ } => is_cell(n, cell),
-            Store::Field {
-                cell,
-                field,
-                value: _,
-            } => {
-                if is_cell(n, cell) {
-                    return field < Spot::FIELDS;
-                }
-                false
-            }
-            Store::Sense(_) => true,
-            Store::AllocSense(_) => true,
-            Store::Phase(_) => true,
-        }
-    }
-
-    // The store is that of an unused entry.
-    fn is_empty(self) -> bool
-        ensures { result ≡ store_empty_of self }
-    {
-        match self {
-            Store::Mark { cell, bit } => {
-                if cell == 0 {
-                    return !bit;
-                }
-                false
-            }
-            Store::Field {
-                cell: _,
-                field: _,
-                value: _,
-            } => false,
-            Store::Sense(_) => false,
-            Store::AllocSense(_) => false,
-            Store::Phase(_) => false,
+            Store::Mark { cell, .. } => is_cell(n, cell),
+            Store::Field { cell, field, .. } => is_cell(n, cell) && field < Spot::FIELDS,
+            Store::Sense(_) | Store::AllocSense(_) | Store::Phase(_) => true,
         }
     }
 }
 
 impl Entry {
-    // At place i of a buffer with `len` pending: a store that fits, or past the length nothing.
+    // At place i of a buffer with `len` pending: a store that fits, or past the length the unused entry.
     fn fits(self, n: u8, len: usize, i: usize) -> bool
         ensures { result ≡ entry_fits_of n len i self }
     {
-        let s = self.store;
         if i < len {
-            return s.fits(n);
+            self.store.fits(n)
+        } else {
+            self == Entry::empty()
         }
-        s.is_empty()
     }
 }
 
@@ -77,15 +44,9 @@ impl Buffer {
         if Buffer::MAX < self.len {
             return false;
         }
-        let mut i = 0;
-        while i < Buffer::MAX {
-            let e = self.entries[i];
-            if e.fits(n, self.len, i) {
-                i += 1;
-            } else {
-                return false;
-            }
-        }
-        true
+        self.entries
+            .iter()
+            .enumerate()
+            .all(|(i, e)| e.fits(n, self.len, i))
     }
 }

@@ -7,20 +7,19 @@
 --     lowest_in, lowest_least        the lowest 1
 --     ones_in_lem, none_in, power_in, minus_in, union_in, in_le, in_max, in_zero        how many of the w lowest digits
 --     are 1
---     one_shl                        the machine's shift of 1
 use mathlib.Core.Path.{◌≡◌, refl, sym, ap, ap₂, ◌∙◌}
 use mathlib.Core.Bool.{Bool, true, false, not, ◌&&◌, ◌||◌, false≢true}
 use mathlib.Core.Logic.{◌⊎◌, inl, inr}
 use Prim.Native.Nat.{ℕ, zero, suc, ◌+◌, ◌-◌, ◌*◌, ◌/◌, ◌%◌, ◌^◌, ◌≤◌, ◌<◌, min, max}
-use native.Mathlib.Nat.{div-one, pow-suc, mod-eq_of_lt}
+use native.Mathlib.Nat.{div-one, pow-suc}
 use native.Mathlib.Numerals.{one-add}
 use native.Mathlib.Omega.{arith}
 use lib.Arith.{bin_ind}
 use lib.Count.{ones, ones_step, ones_in, count_trailing_zeros, under}
 use lib.Dec.{eqb, ltb, leb-zero, leb-suc-zero, leb-suc-suc, eqb-zero-suc, eqb-suc-zero, eqb-suc-suc}
-use lib.Pow.{shr-shr, pow_pos, pow-lt}
+use lib.Pow.{shr-shr, pow_pos}
 use lib.Bits.{and_step, or_step, and_le_l}
-use Rattle.cells.specs.Sets.{max_set, union_of, inter_of, minus_of}
+use Rattle.cells.specs.Sets.{union_of, inter_of, minus_of}
 use Rattle.cells.proofs.Bools.{split}
 
 unfoldable pub has : ℕ → ℕ → Bool
@@ -254,8 +253,3 @@ pub in_zero : (w s : ℕ) → s < 2 ^ w → ones_in w s ≡ 0 → s ≡ 0
 unfolding ones_in
 in_zero zero s h e = omega arith
 in_zero (suc w) s h e = halves_eq s 0 (in_zero w (s / 2) (omega (arith, pow-suc 2 w)) (omega arith)) (omega arith)
-
--- ---- the machine's shift of 1
-
-pub one_shl : (i : ℕ) → i < max_set → (1 * 2 ^ i) % 2 ^ max_set ≡ 2 ^ i
-one_shl i h = let e : 1 * 2 ^ i ≡ 2 ^ i = omega arith in ap (λ (x : ℕ). x % 2 ^ max_set) e ∙ mod-eq_of_lt (pow-lt h)

@@ -24,10 +24,9 @@ use Rattle.state.specs.declared.State.{State}
 use Rattle.state.specs.declared.Choice.{Choice}
 use Rattle.state.specs.declared.RoundType.{RoundType}
 use Rattle.state.specs.declared.RoundType.TheVariants as round
-use Rattle.state.specs.declared.Answer.{Answer}
+use Rattle.state.specs.States.{Answer, no_process, mutators_of, process_of, taken_of, refused_of}
 use Rattle.state.specs.declared.opening.Heap.{Heap}
 use Rattle.state.specs.Codes.{row6_take, row8_take, no_stage, fence_stage, type_stage, raise_stage, poll_stage}
-use Rattle.state.specs.States.{no_process, mutators_of, process_of, taken_of, refused_of}
 use Rattle.state.specs.Openings.{open_collector, opening_of}
 use Rattle.formed.specs.Fits.{among_of, Among, WellFormed}
 use Rattle.model.specs.Rows.{At, Marks, Mutator, Round, all_off, Collector, Row}

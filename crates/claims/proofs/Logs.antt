@@ -10,7 +10,7 @@ use Rattle.state.specs.States.{process_of}
 use Rattle.state.specs.Openings.{opening_of}
 use Rattle.header.specs.Header.{heap_of}
 use Rattle.header.specs.Admitted.{Admitted}
-use Rattle.runlog.specs.declared.run.Run.{Run}
+use Rattle.runlog.specs.Answers.{Run}
 use Rattle.runlog.specs.Statements.{after_of, ran_of, choices_of, Chosen}
 use Rattle.runlog.proofs.Formed.{heap_fitting, after_chosen, ran_chosen}
 use Rattle.claims.specs.Runs.{run_of}

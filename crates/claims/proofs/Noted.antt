@@ -26,7 +26,7 @@ use Rattle.buffers.specs.declared.Entry.{Entry}
 use Rattle.buffers.specs.Stores.{kind_of, hits_of, phase_of}
 use Rattle.buffers.proofs.Hits.{hits_apart}
 use Rattle.memory.specs.declared.Memory.{Memory}
-use Rattle.memory.specs.declared.SeenPhase.{SeenPhase}
+use Rattle.memory.specs.Answers.{SeenPhase}
 use Rattle.memory.specs.Memories.{max_processes}
 use Rattle.memory.specs.Looks.{look_phase_of}
 use Rattle.memory.specs.Views.{pending_for}

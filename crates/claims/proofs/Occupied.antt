@@ -26,10 +26,9 @@ use Rattle.memory_formed.proofs.Shapes.{shaped}
 use Rattle.state.specs.declared.Process.{Process}
 use Rattle.state.specs.declared.State.{State}
 use Rattle.state.specs.declared.Choice.{Choice}
-use Rattle.state.specs.declared.Answer.{Answer}
+use Rattle.state.specs.States.{Answer, taken_of, refused_of}
 use Rattle.state.specs.declared.opening.Heap.{Heap}
 use Rattle.state.specs.Codes.{top, store_write, noop_fence, roots_fence, work_fence, row2_read, row2_write, row4_write, row5_phase, row5_alloc, row7_first, row7_next, row9_write, row10_look, row10_free, row11_write, look_stage, sense_stage, phase_stage, lock_stage, again_stage, write_stage, fence_stage}
-use Rattle.state.specs.States.{taken_of, refused_of}
 use Rattle.state.specs.Openings.{open_memory, opening_of}
 use Rattle.formed.specs.Fits.{WellFormed}
 use Rattle.formed.proofs.Opens.{opening_formed}

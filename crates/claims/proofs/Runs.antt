@@ -7,8 +7,7 @@ use mathlib.Core.List.{List, [], ◌∷◌}
 use mathlib.Core.Logic.{⊎_elim}
 use Rattle.state.specs.declared.State.{State}
 use Rattle.state.specs.declared.Choice.{Choice}
-use Rattle.state.specs.declared.Answer.{Answer}
-use Rattle.state.specs.States.{taken_of}
+use Rattle.state.specs.States.{Answer, taken_of}
 use Rattle.model.specs.Rows.{Row}
 use Rattle.engine.specs.Steps.{step_of}
 use Rattle.engine.proofs.Theorems.{answered, exact}

@@ -23,7 +23,7 @@ use Rattle.buffers.specs.declared.Spot.TheVariants as spot
 use Rattle.buffers.specs.declared.Entry.{Entry}
 use Rattle.buffers.specs.Stores.{bit_of}
 use Rattle.memory.specs.declared.Memory.{Memory}
-use Rattle.memory.specs.declared.SeenBit.{SeenBit}
+use Rattle.memory.specs.Answers.{SeenBit}
 use Rattle.memory.specs.declared.PhaseWord.{PhaseWord}
 use Rattle.memory.specs.Steps.{write_of, commit_of, unlock_of}
 use Rattle.memory.specs.Memories.{taken, stands_of}

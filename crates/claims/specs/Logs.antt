@@ -8,7 +8,7 @@ use Rattle.state.specs.States.{mutators_of, process_of}
 use Rattle.state.specs.Openings.{opening_of}
 use Rattle.header.specs.Header.{heap_of}
 use Rattle.header.specs.Admitted.{Admitted}
-use Rattle.runlog.specs.declared.run.Run.{Run}
+use Rattle.runlog.specs.Answers.{Run}
 use Rattle.runlog.specs.Statements.{after_of, ran_of, choices_of}
 use Rattle.claims.specs.Posted.{Posted}
 use Rattle.claims.specs.Table.{Table}

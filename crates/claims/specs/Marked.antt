@@ -9,7 +9,7 @@ use Rattle.state.specs.declared.Handshake.TheVariants as hand
 use Rattle.state.specs.declared.State.{State}
 use Rattle.state.specs.States.{process_of}
 use Rattle.header.specs.Header.{version_place, cells_place}
-use Rattle.runlog.specs.declared.Outcome.{Outcome}
+use Rattle.runlog.specs.Answers.{Outcome}
 use Rattle.runlog.specs.Runs.{judge_of}
 use Rattle.runlog.specs.Statements.{ran_of}
 

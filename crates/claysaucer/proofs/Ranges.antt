@@ -15,8 +15,7 @@ use Rattle.buffers.specs.Buffers.{max_stores}
 use Rattle.buffers.specs.Sources.{nothing_read, source_number}
 use Rattle.state.specs.declared.State.{State}
 use Rattle.engine.proofs.Theorems.{numbered}
-use Rattle.verdict.specs.declared.Finding.{Finding}
-use Rattle.verdict.specs.Judged.{is_malformed, Judged, loose, black_over_white, handshake, sound}
+use Rattle.verdict.specs.Judged.{Finding, is_malformed, Judged, loose, black_over_white, handshake, sound}
 use Rattle.verdict.specs.Findings.{Found, malformed, formed, finding_of}
 use Rattle.verdict.proofs.Formed.{found_exactly}
 use Rattle.header.specs.Header.{max_log}

@@ -1,7 +1,7 @@
 -- The four numbers in one: bits 0 to 7 the verdict, 8 to 15 the stop, 16 to 23 the last read, 24 to 31 zero, 32 to 63
 -- the steps. Assumes nothing.
 use Rattle.std.specs.Prelude.{ℕ, ◌+◌, ◌*◌, ◌/◌, ◌%◌}
-use Rattle.runlog.specs.declared.Outcome.{Outcome}
+use Rattle.runlog.specs.Answers.{Outcome}
 
 -- how many numbers 8, 16, 24, 32 and 64 bits have
 abbrev pub of8_bits : ℕ

@@ -5,7 +5,7 @@ use Rattle.buffers.specs.Buffers.{max_stores}
 use Rattle.buffers.specs.Sources.{nothing_read}
 use Rattle.verdict.specs.Judged.{is_malformed}
 use Rattle.header.specs.Header.{max_log}
-use Rattle.runlog.specs.declared.Outcome.{Outcome}
+use Rattle.runlog.specs.Answers.{Outcome}
 use Rattle.runlog.specs.Records.{record_size}
 use Rattle.runlog.specs.Runs.{judge_of}
 use Rattle.claysaucer.specs.Packed.{of8_bits, of32_bits, of64_bits, packed_of, verdict_of, stop_of, last_read_of, between_of, steps_of}

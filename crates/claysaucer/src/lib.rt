@@ -3,7 +3,7 @@
 
 ghost use Rattle.std.specs.Prelude.{◌≡◌};
 ghost use Rattle.claysaucer.specs.Packed.{packed_of};
-ghost use Rattle.runlog.specs.Runs.{judge_of};
+ghost use Rattle.runlog.specs.Runs.{outcome_as, judge_of};
 
 use runlog::Outcome;
 
@@ -14,11 +14,15 @@ const READ: u64 = 65536;
 
 const STEPS: u64 = 4294967296;
 
+// One u64, since C gets one, and no `From`: neither type is of this crate.
 // Bits 0 to 7 the verdict, 8 to 15 the stop, 16 to 23 the last read, 24 to 31 zero, 32 to 63 the steps.
 fn packed(o: Outcome) -> u64
-    ensures { result ≡ packed_of o }
+    ensures { result ≡ packed_of (outcome_as o) }
 {
-    (o.verdict as u64) + STOP * (o.stop as u64) + READ * (o.read as u64) + STEPS * (o.steps as u64)
+    u64::from(u8::from(o.verdict))
+        + STOP * u64::from(u8::from(o.stop))
+        + READ * u64::from(u8::from(o.read))
+        + STEPS * u64::from(o.steps)
 }
 
 // "The C test bench gives the log as bytes and gets the same three numbers", and "a fourth number for the C bench".

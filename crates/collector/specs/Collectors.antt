@@ -10,7 +10,7 @@ use Rattle.buffers.specs.Stores.{bit_of, value_of}
 use Rattle.memory.specs.declared.asks.Ask.{Ask}
 use Rattle.memory.specs.declared.asks.Ask.TheVariants as ask
 use Rattle.memory.specs.declared.asks.Change.TheVariants as change
-use Rattle.memory.specs.declared.asks.Sight.{Sight}
+use Rattle.memory.specs.Answers.{Sight}
 use Rattle.state.specs.declared.RoundType.TheVariants as round
 use Rattle.state.specs.declared.Process.{Process}
 use Rattle.state.specs.declared.Choice.{Choice}

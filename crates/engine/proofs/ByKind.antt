@@ -14,8 +14,7 @@ use Rattle.base.specs.Refusals.{as_taken, by_no_process, by_no_kind, by_not_offe
 use Rattle.memory.specs.Memories.{max_processes}
 use Rattle.state.specs.declared.State.{State}
 use Rattle.state.specs.declared.Choice.{Choice}
-use Rattle.state.specs.declared.Answer.{Answer}
-use Rattle.state.specs.States.{refused_of}
+use Rattle.state.specs.States.{Answer, refused_of}
 use Rattle.state.specs.Choices.{is_blank}
 use Rattle.model.proofs.Road.{own_of}
 use Rattle.engine.specs.Steps.{commit_refuses_of, refuses_of, ask_of, go_of, inner_of}

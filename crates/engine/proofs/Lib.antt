@@ -4,3 +4,4 @@ pub mod Located
 pub mod Theorems
 pub mod Runs
 pub mod Readings
+pub mod Unnumbered

@@ -27,9 +27,8 @@ use Rattle.memory.proofs.Origins.{from_laws, swept_from_laws}
 use Rattle.state.specs.declared.Process.{Process}
 use Rattle.state.specs.declared.State.{State}
 use Rattle.state.specs.declared.Choice.{Choice}
-use Rattle.state.specs.declared.Answer.{Answer}
+use Rattle.state.specs.States.{Answer, at, taken_of, refused_of}
 use Rattle.state.specs.Codes.{top, store_mark_old, store_mark_y, store_write, noop_fence, noop_finish, roots_fence, roots_mark, roots_finish, work_fence, work_finish, row1_round, row2_read, row2_write, row3_round, row4_write, row4_round, row5_phase, row5_alloc, row5_round, row6_round, row6_take, row7_first, row7_mark, row7_next, row7_drop, row8_round, row8_take, row9_write, row10_look, row10_free, row11_write, look_stage, sense_stage, phase_stage, lock_stage, again_stage, write_stage, unlock_stage, fence_stage}
-use Rattle.state.specs.States.{at, taken_of, refused_of}
 use Rattle.formed.specs.Fits.{WellFormed}
 use Rattle.marking.specs.Marks.{is_site_of, names_root_of, marked_cell, stage_ask_of, mark_ask}
 use Rattle.mutator.specs.Mutators.{top_ask_of, mutator_ask}
@@ -176,7 +175,7 @@ module _ (s : State) (c : Choice) (t : State) (e : inner_of s c ≡ taken_of t) 
   taken_no h = ap (λ (a : Answer). a.no) (sym h ∙ e)
 
   let_in : number_of s c (mover s c) ≡ 0
-  let_in = by_cases (ℕ_discrete (number_of s c (mover s c)) 0) (λ z. z) (λ n. absurd (n (taken_no (step_refused s c (number_of s c (mover s c)) refl n))))
+  let_in = by_cases (ℕ_discrete (number_of s c (mover s c)) 0) (λ z. z) (λ n. absurd (n (taken_no (step_refused s c (mover s c) refl (number_of s c (mover s c)) refl n))))
 
   look_taken : (sight_of s.memory c.process asked).no ≡ 0
   look_taken =

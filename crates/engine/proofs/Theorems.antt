@@ -17,10 +17,9 @@ use Rattle.base.proofs.Picking.{pick_ind}
 use Rattle.base.specs.Refusals.{by_malformed, by_no_process, by_no_kind, by_not_offered}
 use Rattle.state.specs.declared.State.{State}
 use Rattle.state.specs.declared.Choice.{Choice}
-use Rattle.state.specs.declared.Answer.{Answer}
+use Rattle.state.specs.States.{Answer, mutators_of, process_of, refused_of, taken_of}
 use Rattle.memory.specs.Memories.{max_processes, taken}
 use Rattle.memory.specs.Steps.{commit_of}
-use Rattle.state.specs.States.{mutators_of, process_of, refused_of, taken_of}
 use Rattle.formed.specs.Fits.{WellFormed}
 use Rattle.formed.specs.WellFormed.{well_formed_of}
 use Rattle.formed.proofs.Whole.{well_formed_lem}

@@ -3,8 +3,7 @@ use Rattle.std.specs.Prelude.{◌≡◌, ◌↔◌, ◌⊎◌, ℕ, ◌≤◌, �
 use Rattle.base.specs.Refusals.{by_malformed, by_free}
 use Rattle.state.specs.declared.State.{State}
 use Rattle.state.specs.declared.Choice.{Choice}
-use Rattle.state.specs.declared.Answer.{Answer}
-use Rattle.state.specs.States.{taken_of, refused_of}
+use Rattle.state.specs.States.{Answer, taken_of, refused_of}
 use Rattle.formed.specs.Fits.{WellFormed}
 use Rattle.model.specs.Reasons.{Reason}
 use Rattle.model.specs.Rows.{Row}

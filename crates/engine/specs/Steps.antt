@@ -1,21 +1,22 @@
 -- One record's step: "When the judge says no", checks 1 to 3, and a commit beside the own steps of the two programs.
 -- Assumes nothing.
-use Rattle.std.specs.Prelude.{ℕ, eqb, leb}
+use Rattle.std.specs.Prelude.{ℕ, eqb, leb, Result, Ok, Err}
+use Rattle.base.specs.declared.Refusal.{Refusal}
+use Rattle.buffers.specs.declared.sources.Source.{Source}
 use Rattle.base.specs.Pick.{pick}
-use Rattle.base.specs.Refusals.{as_taken, by_malformed, by_no_process, by_no_kind, by_not_offered}
+use Rattle.base.specs.Refusals.{as_taken, by_malformed, by_no_process, by_no_kind, by_not_offered, refusal_number}
 use Rattle.memory.specs.declared.asks.Ask.{Ask}
 use Rattle.memory.specs.declared.asks.Ask.TheVariants as ask
 use Rattle.memory.specs.declared.asks.Change.TheVariants as change
-use Rattle.memory.specs.declared.asks.Sight.{Sight}
+use Rattle.memory.specs.Answers.{Sight}
 use Rattle.memory.specs.Memories.{max_processes}
 use Rattle.memory.specs.Asks.{told_of}
 use Rattle.state.specs.declared.Process.{Process}
 use Rattle.state.specs.declared.State.{State}
 use Rattle.state.specs.declared.Choice.{Choice}
-use Rattle.state.specs.declared.Answer.{Answer}
+use Rattle.state.specs.States.{Answer, process_of, refused_of, taken_of}
 use Rattle.state.specs.declared.acts.Going.{Going}
 use Rattle.state.specs.declared.acts.Setting.{Setting}
-use Rattle.state.specs.States.{process_of, refused_of}
 use Rattle.state.specs.Choices.{is_blank}
 use Rattle.state.specs.Acts.{going_on, setting_of}
 use Rattle.formed.specs.WellFormed.{well_formed_of}
@@ -49,6 +50,11 @@ inner_of s c =
     let q = process_of s c.process in
     let n = refuses_of s.memory.processes s.memory.cells c q in
     pick (eqb n 0) (answered_of s c.process (λ v. go_of c (setting_of s c.x) v q) (told_of s.memory c.process (ask_of c q))) (refused_of n s)
+
+-- the code's answer, which leaves the state t: what it read goes beside
+abbrev pub turned_as : State → Result Source Refusal → Answer
+turned_as t (Ok v) = taken_of t
+turned_as t (Err r) = refused_of (refusal_number r) t
 
 -- 1: "the state is malformed"
 unfoldable pub step_of : State → Choice → Answer

@@ -1,48 +1,55 @@
 // One record's step: the checks in number order; what the record asks of memory, and how its process goes on. A
 // commit stands beside the own steps.
-// c is the choice, q the process that it names. `refuses`, `ask` and `go` take no state: so a run can keep one and
-// change it in place.
+// c is the choice, q the process that it names. `refuses`, `ask` and `go` take no state: so `turn` can change the one
+// that it is lent in place.
 #![tactic(auto)]
 
-ghost use Rattle.std.specs.Prelude.{◌≡◌};
-ghost use Rattle.engine.specs.Steps.{commit_refuses_of, refuses_of, ask_of, go_of, inner_of, step_of};
+ghost use Rattle.std.specs.Prelude.{◌≡◌, IfOk, OnErr};
+ghost use Rattle.base.specs.Refusals.{number_of};
+ghost use Rattle.memory.specs.Asks.{sight_as};
+ghost use Rattle.state.specs.States.{answered};
+ghost use Rattle.engine.specs.Steps.{commit_refuses_of, refuses_of, ask_of, go_of, turned_as, inner_of, step_of};
+ghost use Rattle.engine.specs.Readings.{read_by};
 
 use base::Refusal;
+use buffers::sources::Source;
 use memory::Memory;
 use memory::asks::{Ask, Change, Sight};
 use state::acts::{Going, Setting};
-use state::{Answer, Choice, Process, State};
+use state::{Choice, Process, Refused, State};
 
 // A commit uses no argument.
-fn commit_refuses(c: Choice) -> u8
-    ensures { result ≡ commit_refuses_of c }
+#[tactic(auto, unfolding(crate::specs::Steps::commit_refuses_of))]
+fn commit_refuses(c: Choice) -> Result<(), Refusal>
+    ensures { number_of result ≡ commit_refuses_of c }
 {
-    if c.blank() {
-        return Refusal::TAKEN;
+    if !c.blank() {
+        return Err(Refusal::NotOffered);
     }
-    Refusal::NOT_OFFERED
+    Ok(())
 }
 
-// Checks 2 to 4 and 6, n being the number of cells: the number of the refusal, or 0.
-pub fn refuses(processes: u8, n: u8, c: Choice, q: Process) -> u8
-    ensures { result ≡ refuses_of processes n c q }
+// Checks 2 to 4 and 6, n being the number of cells.
+#[tactic(auto, unfolding(crate::specs::Steps::refuses_of))]
+pub fn refuses(processes: u8, n: u8, c: Choice, q: Process) -> Result<(), Refusal>
+    ensures { number_of result ≡ refuses_of processes n c q }
 {
     if processes <= c.process {
-        return Refusal::NO_PROCESS;
+        return Err(Refusal::NoProcess);
     }
     let i = c.process as usize;
     if Memory::PROCESSES <= i {
-        return Refusal::NO_PROCESS;
+        return Err(Refusal::NoProcess);
     }
-    let kind = c.kind;
-    match kind {
+    match c.kind {
         Choice::OWN => own::refuses(n, c, q),
         Choice::COMMIT => commit_refuses(c),
-        Choice::BEYOND..=255 => Refusal::NO_KIND,
+        Choice::BEYOND..=255 => Err(Refusal::NoKind),
     }
 }
 
 // "A commit applies one's oldest store, unblocked."
+#[tactic(auto, unfolding(crate::specs::Steps::ask_of))]
 pub fn ask(c: Choice, q: Process) -> Ask
     ensures { result ≡ ask_of c q }
 {
@@ -53,8 +60,9 @@ pub fn ask(c: Choice, q: Process) -> Ask
 }
 
 // A commit leaves the process as it is.
+#[tactic(auto, unfolding(crate::specs::Steps::go_of))]
 pub fn go(c: Choice, set: Setting, seen: Sight, q: Process) -> Going
-    ensures { result ≡ go_of c set seen q }
+    ensures { result ≡ go_of c set (sight_as seen) q }
 {
     if c.kind == Choice::COMMIT {
         return Going::on(q);
@@ -62,39 +70,47 @@ pub fn go(c: Choice, set: Setting, seen: Sight, q: Process) -> Going
     own::go(c, set, seen, q)
 }
 
-// Checks 2 to 11, and the step: for a state that is known to be well formed, as every state of a run from an opening
-// is.
-pub fn inner(mut s: State, c: Choice) -> Answer
-    ensures { result ≡ inner_of s c }
+// Checks 2 to 11, and the step, in place: where the value came from that it was told. A refusal leaves the state as it
+// came.
+pub fn turn(s: &mut State, c: Choice) -> Result<Source, Refusal>
+    ensures answer { turned_as s.new result ≡ inner_of s.old c }
+    ensures kept { OnErr result (s.new ≡ s.old) }
+    ensures read { IfOk result (λ v. v ≡ read_by s.old c) }
 {
     let p = c.process;
-    let m = s.memory;
     let q = s.process(p);
-    let set = s.setting(c.x);
-    let no = refuses(m.processes, m.cells, c, q);
-    if no != 0 {
-        return s.refused(no);
-    }
+    refuses(s.memory.processes, s.memory.cells, c, q)?;
     let asked = ask(c, q);
-    let seen = m.sight(p, asked);
-    if seen.no != 0 {
-        return s.refused(seen.no);
+    let seen = s.memory.sight(p, asked)?;
+    let set = s.setting(c.x);
+    if asked.changes() {
+        s.memory = s.memory.made(p, asked)?;
     }
-    let d = m.made(p, asked);
-    if d.no != 0 {
-        return s.refused(d.no);
+    s.goes(p, go(c, set, seen, q));
+    Ok(seen.from)
+}
+
+// Checks 2 to 11, and the step: for a state that is known to be well formed, as every state of a run from an opening
+// is.
+pub fn inner(mut s: State, c: Choice) -> Result<State, Refused>
+    ensures { answered result ≡ inner_of s c }
+{
+    match turn(&mut s, c) {
+        Ok(_) => Ok(s),
+        Err(why) => Err(Refused { why, state: s }),
     }
-    let memory = d.memory;
-    s.memory = memory;
-    s.goes(p, go(c, set, seen, q)).taken()
 }
 
 // Any state, any choice: "Checks run in number order."
-pub fn step(s: State, c: Choice) -> Answer
-    ensures { result ≡ step_of s c }
+#[tactic(auto, unfolding(crate::specs::Steps::step_of))]
+pub fn step(s: State, c: Choice) -> Result<State, Refused>
+    ensures { answered result ≡ step_of s c }
 {
     if !formed::well_formed(s) {
-        return s.refused(Refusal::MALFORMED);
+        return Err(Refused {
+            why: Refusal::Malformed,
+            state: s,
+        });
     }
     inner(s, c)
 }

@@ -8,91 +8,63 @@
 //     P p c f v   is at the place cf, two digits, and the stage v
 //     X, Y, O, C p . . v   has the note x, y, old, cell      L, W, R p . . v   has left, list, roots, each a set as a
 //                          number      U p   has its flag raised
+// The matches over letters read the input: a table of functions would be no plainer.
 use super::places;
+use base::Refusal;
 use buffers::{Buffer, Entry, Store};
-use memory::{Done, Memory};
+use memory::Memory;
+use script::grounds::{full, with_buffer};
 use script::{Change, number};
 use state::{Handshake, Part, Process, State};
 
 // ---- memory
 
-fn left_by(done: Done) -> Memory {
-    done.memory
-}
-
+// On a letter that is none of these the memory cases differ from those here.
 fn store(a: Change) -> Store {
-    let letter = a.letter;
-    match letter {
-        b'w' => Store::Field {
-            cell: a.c,
-            field: a.f,
-            value: a.v,
-        },
-        b'm' => Store::Mark {
-            cell: a.c,
-            bit: a.v != 0,
-        },
+    match a.letter {
+        b'w' => a.field_store(),
+        b'm' => a.mark_store(),
         _ => Store::Sense(a.v != 0),
     }
 }
 
-fn full(mut m: Memory, p: usize) -> Memory {
-    let e = Entry {
-        store: Store::Sense(true),
-    };
-    let entries = [e; Buffer::MAX];
-    if p < Memory::PROCESSES {
-        m.buffers[p] = Buffer {
-            entries,
-            len: Buffer::MAX,
-        };
+// On a letter that is none of these the memory cases differ from those here.
+fn step(m: Memory, a: Change) -> Result<Memory, Refusal> {
+    match a.letter {
+        b'l' => m.take_lock(a.p),
+        b'a' => m.allocate(0, a.c),
+        b'd' => m.free(0, a.c),
+        b'k' => m.commit(a.p),
+        _ => m.write(a.p, Entry { store: store(a) }),
     }
-    m
 }
 
 fn in_memory(m: Memory, a: Change) -> Memory {
-    let letter = a.letter;
-    match letter {
-        b'l' => left_by(m.take_lock(a.p)),
-        b'a' => left_by(m.allocate(0, a.c)),
-        b'd' => left_by(m.free(0, a.c)),
-        b'k' => left_by(m.commit(a.p)),
-        b'e' => full(m, a.p as usize),
-        _ => left_by(m.write(a.p, Entry { store: store(a) })),
+    match a.letter {
+        b'e' => with_buffer(m, a.p, |_| full(Buffer::MAX)),
+        _ => step(m, a).unwrap_or(m),
     }
 }
 
 // ---- processes
 
-fn raised(mut q: Process) -> Process {
-    let part = Part {
-        raised: true,
-        in_step: false,
-        phase: Handshake::IdleMarkSweep,
-    };
-    q.part = part;
-    q
-}
-
-fn set(mut q: Process, letter: u8, s: u64) -> Process {
-    match letter {
-        b'L' => q.left = s,
-        b'W' => q.work = s,
-        _ => q.roots = s,
-    }
-    q
-}
-
 fn in_process(mut q: Process, a: Change) -> Process {
-    let letter = a.letter;
-    match letter {
+    match a.letter {
         b'P' => return places::fitting(q, number(a.c, a.f), a.v),
-        b'U' => return raised(q),
+        b'U' => {
+            q.part = Part {
+                raised: true,
+                in_step: false,
+                phase: Handshake::IdleMarkSweep,
+            };
+        }
         b'X' => q.x = a.v,
         b'Y' => q.y = a.v,
         b'O' => q.old = a.v,
         b'C' => q.cell = a.v,
-        _ => return set(q, letter, a.v as u64),
+        b'L' => q.left = u64::from(a.v),
+        b'W' => q.work = u64::from(a.v),
+        _ => q.roots = u64::from(a.v),
     }
     q
 }
@@ -100,17 +72,14 @@ fn in_process(mut q: Process, a: Change) -> Process {
 // A capital changes a process, any other letter memory.
 pub(crate) fn changed(mut s: State, a: Change) -> State {
     if a.letter <= b'Z' {
-        let q = s.process(a.p);
-        return s.with_process(a.p, in_process(q, a));
+        return s.with_process(a.p, in_process(s.process(a.p), a));
     }
-    let m = s.memory;
-    s.memory = in_memory(m, a);
+    s.memory = in_memory(s.memory, a);
     s
 }
 
 // Process p holds the lock.
 pub(crate) fn held(mut s: State, p: u8) -> State {
-    let m = s.memory;
-    s.memory = left_by(m.take_lock(p));
+    s.memory = s.memory.take_lock(p).unwrap_or(s.memory);
     s
 }

@@ -11,132 +11,82 @@
 
 mod acts;
 mod places;
-mod same;
 
-use base::Refusal;
-use header::bytes::byte;
-use memory::Memory;
-use script::{Change, digit, rest};
-use state::opening::Heap;
-use state::{Answer, Choice, Process, State};
+use script::grounds::bare;
+use script::pieces::{Pieces, choice};
+use script::{Change, rest};
+use state::{Choice, Refused, State};
 use std::io::{self, Read};
 
-// A choice, behind its sign: six digits, as a record has them: process, kind, operation, x, f, y.
-fn choice(s: &[u8]) -> Choice {
-    Choice {
-        process: digit(s, 1),
-        kind: digit(s, 2),
-        op: digit(s, 3),
-        x: digit(s, 4),
-        f: digit(s, 5),
-        y: digit(s, 6),
-    }
-}
-
 fn ground() -> State {
-    let mut field0 = [0u8; Memory::CELLS];
-    field0[0] = 2;
-    let field1 = [0u8; Memory::CELLS];
-    let roots = [3, 1, 0, 0];
-    State::opening(Heap {
-        cells: 3,
-        processes: 3,
-        used: 3,
-        field0,
-        field1,
-        roots,
-    })
-}
-
-fn place(rt: &impl Print, q: Process) -> io::Result<()> {
-    print!(rt; ">{}/{}", q.place, q.stage)
-}
-
-// The answer of a step of process p from the state s.
-fn answer(rt: &impl Print, s: State, p: u8, a: Answer) -> io::Result<()> {
-    let t = a.state;
-    print!(rt; " {}", a.no)?;
-    if a.no == Refusal::TAKEN {
-        place(rt, t.process(p))
-    } else if same::state(s, t, p) {
-        print!(rt; "=")
-    } else {
-        print!(rt; "!")
-    }
+    let mut heap = bare(3, 3);
+    heap.used = 3;
+    heap.field0[0] = 2;
+    heap.roots = [3, 1, 0, 0];
+    State::opening(heap)
 }
 
 // One step, and its answer.
 fn told(rt: &impl Print, s: State, c: Choice) -> io::Result<()> {
-    answer(rt, s, c.process, engine::step(s, c))
+    let p = c.process;
+    match engine::step(s, c) {
+        Ok(t) => {
+            let q = t.process(p);
+            print!(rt; " 0>{}/{}", q.place, q.stage)
+        }
+        Err(Refused { why, state }) => {
+            let sign = if state == s { '=' } else { '!' };
+            print!(rt; " {}{sign}", u8::from(why))
+        }
+    }
 }
 
 // The same with the lock held by nobody, by the collector, by mutator 1, by mutator 2: four answers.
 fn locks(rt: &impl Print, s: State, c: Choice) -> io::Result<()> {
     told(rt, s, c)?;
-    told(rt, acts::held(s, 0), c)?;
-    told(rt, acts::held(s, 1), c)?;
-    told(rt, acts::held(s, 2), c)
-}
-
-fn echo(rt: &impl Print, s: &[u8]) -> io::Result<()> {
-    if s.is_empty() {
-        return Ok(());
-    }
-    rt.write_all(&s[0..1])
-}
-
-// How many bytes belong to the first.
-fn more(text: &[u8]) -> usize {
-    let b = byte(text, 0);
-    match b {
-        b'+' => 5,
-        b'=' => 6,
-        b'#' => 6,
-        b';' => rest(text),
-        _ => 0,
-    }
-}
-
-// What stands first in the text: + a change; = a choice, # a choice with each holder of the lock, after which the
-// ground is as before; a semicolon, behind which is why the cases below it are there; else a byte of a line.
-fn turn(rt: &impl Print, s: State, text: &[u8]) -> io::Result<State> {
-    let b = byte(text, 0);
-    match b {
-        b'+' => Ok(acts::changed(s, Change::read(text))),
-        b'=' => {
-            told(rt, s, choice(text))?;
-            Ok(ground())
-        }
-        b'#' => {
-            locks(rt, s, choice(text))?;
-            Ok(ground())
-        }
-        b';' => Ok(s),
-        _ => {
-            echo(rt, text)?;
-            Ok(s)
-        }
-    }
-}
-
-// All cases, each from the ground.
-fn table(rt: &impl Print, text: &[u8]) -> io::Result<()> {
-    let mut s = ground();
-    let mut at = 0;
-    while at < text.len() {
-        let first = &text[at..];
-        s = turn(rt, s, first)?;
-        let k = more(first);
-        if text.len() - at <= k {
-            return Ok(());
-        }
-        at += k + 1;
+    for p in 0..3 {
+        told(rt, acts::held(s, p), c)?;
     }
     Ok(())
 }
 
+// How many bytes belong to what stands first in the text.
+fn more(text: &[u8]) -> usize {
+    match text {
+        [b'+', ..] => 5,
+        [b'=' | b'#', ..] => 6,
+        [b';', ..] => rest(text),
+        _ => 0,
+    }
+}
+
+// A piece of the text: + a change; = a choice, # a choice with each holder of the lock, after which the ground is as
+// before; a semicolon, behind which is why the cases below it are there; else a byte of a line.
+fn turn(rt: &impl Print, s: State, piece: &[u8]) -> io::Result<State> {
+    match piece {
+        [b'+', ..] => return Ok(acts::changed(s, Change::read(piece))),
+        [b'=', digits @ ..] => {
+            told(rt, s, choice(digits))?;
+            return Ok(ground());
+        }
+        [b'#', digits @ ..] => {
+            locks(rt, s, choice(digits))?;
+            return Ok(ground());
+        }
+        [b';', ..] => {}
+        _ => rt.write_all(piece)?,
+    }
+    Ok(s)
+}
+
+// All cases, each from the ground.
+// What the programs over pieces share is `Pieces`: a `for` of three lines is left.
 fn main(rt: HostRuntime) -> io::Result<()> {
     let mut text = Vec::new(rt.alloc());
     rt.reader().read_to_end(&mut text)?;
-    table(&rt, &text)
+    let mut s = ground();
+    for piece in Pieces::of(&text, more) {
+        s = turn(&rt, s, piece)?;
+    }
+    Ok(())
 }

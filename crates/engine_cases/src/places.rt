@@ -1,4 +1,5 @@
 // A process that fits its place and stage: what the place uses has a value, and all else is zero.
+use script::grounds::marked;
 use state::Process;
 use state::codes::{MarkStage, Place, RoundStage};
 
@@ -18,7 +19,9 @@ fn scanning(mut q: Process, left: u64) -> Process {
     q
 }
 
-// The notes of the operation or the row, and what is left: roots 1 and 2, field 1, or cells 1 to 3.
+// The notes of the operation or the row, and what is left: roots 1 and 2, field 1, or cells 1 to 3. `state_cases` has
+// the same places with other values, over a process that had none: a function of both would be these tables as
+// arguments.
 fn noted(mut q: Process, place: u8) -> Process {
     match place {
         Place::STORE_MARK_OLD | Place::STORE_MARK_Y | Place::STORE_WRITE => return storing(q),
@@ -36,18 +39,6 @@ fn noted(mut q: Process, place: u8) -> Process {
     q
 }
 
-// A mark's notes: its cell is 2, the first look from the second stage, the noted fM from the third, the cell being
-// greyed at the seventh.
-fn marked(mut q: Process, stage: u8, cell: u8) -> Process {
-    q.cell = cell;
-    q.look = MarkStage::SENSE <= stage;
-    q.sense = MarkStage::PHASE <= stage;
-    if stage == MarkStage::UNLOCK {
-        q.grey = 2;
-    }
-    q
-}
-
 // A round awaits mutators 1 and 2 while it raises and polls.
 fn awaiting(mut q: Process, stage: u8) -> Process {
     if RoundStage::RAISE <= stage {
@@ -56,24 +47,19 @@ fn awaiting(mut q: Process, stage: u8) -> Process {
     q
 }
 
-// At places 1 and 2 the cell being marked is the store's own note; at 7, stage 1, it is not yet named.
+// A mark greys cell 2. At places 1 and 2 the cell being marked is the store's own note; at 7, stage 1, it is not yet
+// named.
 fn staged(q: Process, place: u8, stage: u8) -> Process {
     match place {
-        Place::STORE_MARK_OLD | Place::STORE_MARK_Y => marked(q, stage, 0),
-        Place::ROOTS_MARK => {
-            if stage == MarkStage::LOOK {
-                return q;
-            }
-            marked(q, stage, 2)
-        }
-        Place::ROW7_MARK => marked(q, stage, 2),
+        Place::STORE_MARK_OLD | Place::STORE_MARK_Y => marked(q, stage, 0, 2),
+        Place::ROOTS_MARK if stage == MarkStage::LOOK => q,
+        Place::ROOTS_MARK | Place::ROW7_MARK => marked(q, stage, 2, 2),
         _ => awaiting(q, stage),
     }
 }
 
 // The process at the place and the stage, with its roots and its part in the handshakes as they were.
-pub(crate) fn fitting(was: Process, place: u8, stage: u8) -> Process {
-    let mut q = was;
+pub(crate) fn fitting(mut q: Process, place: u8, stage: u8) -> Process {
     q.place = place;
     q.stage = stage;
     staged(noted(q, place), place, stage)

@@ -12,15 +12,19 @@ use lib.Dec.{eqb, ltb, leb}
 use borrow.Author.Tests.{leb-true, ltb-true, eqb-true, lt-ltb, le-leb, eq-eqb, ne_eqb}
 use Rattle.base.specs.Pick.{pick}
 use Rattle.base.specs.Every.{◌and◌}
+use Rattle.base.proofs.Choices.{choices}
 use Rattle.base.proofs.Everies.{and_both, unless}
-use Rattle.cells.specs.Sets.{no_cells, below_of}
+use Rattle.cells.specs.Sets.{no_cells}
 use Rattle.state.specs.declared.Handshake.{Handshake}
 use Rattle.state.specs.declared.Handshake.TheVariants as hand
 use Rattle.state.specs.declared.Part.{Part}
 use Rattle.state.specs.declared.Process.{Process}
 use Rattle.state.specs.Codes.{top, work_finish, row1_round, row11_write, no_stage, look_stage, phase_stage, poll_stage}
 use Rattle.state.specs.States.{no_part, no_process, phase_number}
-use Rattle.formed.specs.Uses.{row, no_notes, of_store, a_cell, nothing_left, cells_left, fields_left, unstaged, of_old, of_y, of_cell, of_named, nothing_row, round_row, uses_of}
+use Rattle.formed.specs.declared.table.Notes.TheVariants as note
+use Rattle.formed.specs.declared.table.Left.TheVariants as left
+use Rattle.formed.specs.declared.table.Stages.TheVariants as stage
+use Rattle.formed.specs.Uses.{row, nothing_row, round_row, uses_of}
 use Rattle.formed.specs.Fits.{Unnoted, Unmarked, StoreMark, RootsFirst, RootsRest, MutatorAt, idle, mark_old, mark_y, write, roots_first, roots_rest, MutatorFits, CollectorAt, plain, round, scan_mark, scan, drop, sweep, sweep_free, CollectorFits}
 use Rattle.formed.specs.WellFormed.{no_store_of, notes_fit_of, left_fits_of, no_mark_of, mark_fits_of, named_fits_of, round_fits_of, stage_fits_of, place_fits_of, sense_fits_of, mutator_fits_of, no_part_of, collector_fits_of, nobody_of}
 use Rattle.formed.proofs.Columns.{late_told, late_test, store_told, store_test, NoStore, unnoted_told, unnoted_test, noted_told, noted_test, mark_told, mark_test, unmarked_told, unmarked_test, left_told, left_test, columns, joined}
@@ -29,22 +33,20 @@ use Rattle.formed.proofs.Places.{MutatorPlace, is_idle_lem, is_mark_old, is_mark
 -- ---- a mutator
 module _ (n m : ℕ) (q : Process) where
   -- a place with no stage
-  resting : stage_fits_of unstaged n q ≡ true → (q.stage ≡ no_stage) × Unmarked q.cell q.look q.grey
+  resting : stage_fits_of stage.Nothing n q ≡ true → (q.stage ≡ no_stage) × Unmarked q.cell q.look q.grey
   unfolding stage_fits_of
-  resting e = let a = and_both (eqb q.stage no_stage) (no_mark_of q) e in (eqb-true _ _ a.0, unmarked_told n q a.1)
+  resting e = grind (arith, choices, unmarked_told)
 
-  resting_test : q.stage ≡ no_stage → Unmarked q.cell q.look q.grey → stage_fits_of unstaged n q ≡ true
+  resting_test : q.stage ≡ no_stage → Unmarked q.cell q.look q.grey → stage_fits_of stage.Nothing n q ≡ true
   unfolding stage_fits_of
-  resting_test z w = rw (eq-eqb _ _ z) (unmarked_test n q w)
+  resting_test z w = grind (arith, choices, unmarked_test)
 
   -- the mark of a cell that is kept elsewhere
-  storing : (c : ℕ) → eqb q.cell 0 and mark_fits_of n c q ≡ true → notes_fit_of of_store n q ≡ true → left_fits_of nothing_left n m q ≡ true → (q.stage < phase_stage → q.sense ≡ false) → StoreMark n c q
+  storing : (c : ℕ) → eqb q.cell 0 and mark_fits_of n c q ≡ true → notes_fit_of note.Store n q ≡ true → left_fits_of left.Nothing n m q ≡ true → (q.stage < phase_stage → q.sense ≡ false) → StoreMark n c q
   unfolding notes_fit_of left_fits_of
-  storing c e a l s =
-      let b = and_both (eqb q.cell 0) (mark_fits_of n c q) e in
-      record { notes = store_told n q a; left = eqb-true _ _ l; cell = eqb-true _ _ b.0; mark = mark_told n q c b.1; sense = s }
+  storing c e a l s = record { notes = store_told n q a; left = grind (arith, choices); cell = grind (arith, choices); mark = mark_told n q c (grind (arith, choices)); sense = s }
 
-  naming : named_fits_of n q ≡ true → notes_fit_of no_notes n q ≡ true → left_fits_of cells_left n m q ≡ true → (q.stage < phase_stage → q.sense ≡ false) → RootsFirst n q ⊎ RootsRest n q
+  naming : named_fits_of n q ≡ true → notes_fit_of note.Nothing n q ≡ true → left_fits_of left.Cells n m q ≡ true → (q.stage < phase_stage → q.sense ≡ false) → RootsFirst n q ⊎ RootsRest n q
   unfolding notes_fit_of left_fits_of named_fits_of
   naming e a l s = go (ℕ_discrete q.stage look_stage)
     where
@@ -63,25 +65,20 @@ module _ (n m : ℕ) (q : Process) where
           let w = columns n q m nothing_row (uses_idle q.place h) e in
           let a = resting w.stage in
           idle h (record { stage = a.0; notes = unnoted_told n q w.notes; left = eqb-true _ _ w.left; mark = a.1; sense = f (omega arith) })
-      go f (is_mark_old h) = let w = columns n q m (row of_store nothing_left of_old) (rw h refl) e in mark_old h (storing q.old w.stage w.notes w.left f)
-      go f (is_mark_y h) = let w = columns n q m (row of_store nothing_left of_y) (rw h refl) e in mark_y h (storing q.y w.stage w.notes w.left f)
+      go f (is_mark_old h) = let w = columns n q m (row note.Store left.Nothing stage.Old) (rw h refl) e in mark_old h (storing q.old w.stage w.notes w.left f)
+      go f (is_mark_y h) = let w = columns n q m (row note.Store left.Nothing stage.Y) (rw h refl) e in mark_y h (storing q.y w.stage w.notes w.left f)
       go f (is_write h) =
-          let w = columns n q m (row of_store nothing_left unstaged) (rw h refl) e in
+          let w = columns n q m (row note.Store left.Nothing stage.Nothing) (rw h refl) e in
           let a = resting w.stage in
           write h (record { stage = a.0; notes = store_told n q w.notes; left = eqb-true _ _ w.left; mark = a.1; sense = f (omega arith) })
-      go f (is_roots h) = let w = columns n q m (row no_notes cells_left of_named) (rw h refl) e in ⊎_elim (roots_first h) (roots_rest h) (naming w.stage w.notes w.left f)
+      go f (is_roots h) = let w = columns n q m (row note.Nothing left.Cells stage.Named) (rw h refl) e in ⊎_elim (roots_first h) (roots_rest h) (naming w.stage w.notes w.left f)
 
   pub mutator_told : mutator_fits_of n m q ≡ true → MutatorFits n q
   unfolding mutator_fits_of
-  mutator_told e =
-      let a = and_both (leb q.place work_finish) (place_fits_of n m q and below_of q.roots n and below_of q.work n and sense_fits_of q) e in
-      let b = and_both (place_fits_of n m q) (below_of q.roots n and below_of q.work n and sense_fits_of q) a.1 in
-      let d = and_both (below_of q.roots n) (below_of q.work n and sense_fits_of q) b.1 in
-      let f = and_both (below_of q.work n) (sense_fits_of q) d.1 in
-      record { roots = d.0; work = f.0; notes = at_told a.0 b.0 f.1 }
+  mutator_told e = record { roots = grind (arith, choices); work = grind (arith, choices); notes = at_told (grind (arith, choices)) (grind (arith, choices)) (grind (arith, choices)) }
 
   store_mark_test : (c : ℕ) → StoreMark n c q → eqb q.cell 0 and mark_fits_of n c q ≡ true
-  store_mark_test c w = rw (eq-eqb _ _ w.cell) (mark_test n q c w.mark)
+  store_mark_test c w = grind (arith, choices, mark_test)
 
   -- the place, what is in use there, and the sense
   record Tests : Type 0 where
@@ -100,37 +97,37 @@ module _ (n m : ℕ) (q : Process) where
   at_test (mark_old h w) =
       record {
         place = rw h refl;
-        fits = joined n q m (row of_store nothing_left of_old) (rw h refl) (record { notes = store_test n q w.notes; left = eq-eqb _ _ w.left; stage = store_mark_test q.old w });
+        fits = joined n q m (row note.Store left.Nothing stage.Old) (rw h refl) (record { notes = store_test n q w.notes; left = eq-eqb _ _ w.left; stage = store_mark_test q.old w });
         sense = late_test q.sense phase_stage q.stage w.sense;
       }
   at_test (mark_y h w) =
       record {
         place = rw h refl;
-        fits = joined n q m (row of_store nothing_left of_y) (rw h refl) (record { notes = store_test n q w.notes; left = eq-eqb _ _ w.left; stage = store_mark_test q.y w });
+        fits = joined n q m (row note.Store left.Nothing stage.Y) (rw h refl) (record { notes = store_test n q w.notes; left = eq-eqb _ _ w.left; stage = store_mark_test q.y w });
         sense = late_test q.sense phase_stage q.stage w.sense;
       }
   at_test (write h w) =
       record {
         place = rw h refl;
-        fits = joined n q m (row of_store nothing_left unstaged) (rw h refl) (record { notes = store_test n q w.notes; left = eq-eqb _ _ w.left; stage = resting_test w.stage w.mark });
+        fits = joined n q m (row note.Store left.Nothing stage.Nothing) (rw h refl) (record { notes = store_test n q w.notes; left = eq-eqb _ _ w.left; stage = resting_test w.stage w.mark });
         sense = late_test q.sense phase_stage q.stage (λ l. w.sense);
       }
   at_test (roots_first h w) =
       record {
         place = rw h refl;
-        fits = joined n q m (row no_notes cells_left of_named) (rw h refl) (record { notes = unnoted_test n q w.notes; left = w.left; stage = rw (eq-eqb _ _ w.stage) (unmarked_test n q w.mark) });
+        fits = joined n q m (row note.Nothing left.Cells stage.Named) (rw h refl) (record { notes = unnoted_test n q w.notes; left = w.left; stage = rw (eq-eqb _ _ w.stage) (unmarked_test n q w.mark) });
         sense = late_test q.sense phase_stage q.stage (λ l. w.sense);
       }
   at_test (roots_rest h w) =
       record {
         place = rw h refl;
-        fits = joined n q m (row no_notes cells_left of_named) (rw h refl) (record { notes = unnoted_test n q w.notes; left = w.left; stage = rw (ne_eqb q.stage look_stage (λ e. omega arith)) (mark_test n q q.cell w.mark) });
+        fits = joined n q m (row note.Nothing left.Cells stage.Named) (rw h refl) (record { notes = unnoted_test n q w.notes; left = w.left; stage = rw (ne_eqb q.stage look_stage (λ e. omega arith)) (mark_test n q q.cell w.mark) });
         sense = late_test q.sense phase_stage q.stage w.sense;
       }
 
   pub mutator_test : MutatorFits n q → mutator_fits_of n m q ≡ true
   unfolding mutator_fits_of
-  mutator_test w = let a = at_test w.notes in rw (a.place, a.fits, w.roots, w.work) a.sense
+  mutator_test w = let a = at_test w.notes in grind (arith, choices)
 
   -- ---- the collector
   collector_at : is_collectors q.place ≡ true → place_fits_of n m q ≡ true → CollectorAt n m q × NoStore n q
@@ -154,26 +151,26 @@ module _ (n m : ℕ) (q : Process) where
           let f = left_told n q m w.left in
           (round h (record { begun = ltb-true _ _ a.0; running = leb-true _ _ d.0; no_x = b.no_x; none_left = f.0; left = f.1; mark = unmarked_told n q d.1 }), bare b)
       go (is_scan_mark h) =
-          let w = columns n q m (row a_cell fields_left of_cell) (rw h refl) e in
+          let w = columns n q m (row note.Cell left.Fields stage.Cell) (rw h refl) e in
           let b = noted_told n q w.notes in
           (scan_mark h (record { is_x = b.0; left = w.left; mark = mark_told n q q.cell w.stage }), b.1)
       go (is_scan h) =
-          let w = columns n q m (row a_cell fields_left unstaged) (rw h refl) e in
+          let w = columns n q m (row note.Cell left.Fields stage.Nothing) (rw h refl) e in
           let a = resting w.stage in
           let b = noted_told n q w.notes in
           (scan h (record { stage = a.0; is_x = b.0; left = w.left; mark = a.1 }), b.1)
       go (is_drop h) =
-          let w = columns n q m (row a_cell nothing_left unstaged) (rw h refl) e in
+          let w = columns n q m (row note.Cell left.Nothing stage.Nothing) (rw h refl) e in
           let a = resting w.stage in
           let b = noted_told n q w.notes in
           (drop h (record { stage = a.0; is_x = b.0; left = eqb-true _ _ w.left; mark = a.1 }), b.1)
       go (is_sweep h) =
-          let w = columns n q m (row no_notes cells_left unstaged) (rw h refl) e in
+          let w = columns n q m (row note.Nothing left.Cells stage.Nothing) (rw h refl) e in
           let a = resting w.stage in
           let b = unnoted_told n q w.notes in
           (sweep h (record { stage = a.0; no_x = b.no_x; left = w.left; mark = a.1 }), bare b)
       go (is_sweep_free h) =
-          let w = columns n q m (row a_cell cells_left unstaged) (rw h refl) e in
+          let w = columns n q m (row note.Cell left.Cells stage.Nothing) (rw h refl) e in
           let a = resting w.stage in
           let b = noted_told n q w.notes in
           (sweep_free h (record { stage = a.0; is_x = b.0; left = w.left; mark = a.1 }), b.1)
@@ -190,23 +187,23 @@ module _ (n m : ℕ) (q : Process) where
   )
   collector_at_test (scan_mark h w) z = (
     rw h refl,
-    joined n q m (row a_cell fields_left of_cell) (rw h refl) (record { notes = noted_test n q w.is_x z; left = w.left; stage = mark_test n q q.cell w.mark }),
+    joined n q m (row note.Cell left.Fields stage.Cell) (rw h refl) (record { notes = noted_test n q w.is_x z; left = w.left; stage = mark_test n q q.cell w.mark }),
   )
   collector_at_test (scan h w) z = (
     rw h refl,
-    joined n q m (row a_cell fields_left unstaged) (rw h refl) (record { notes = noted_test n q w.is_x z; left = w.left; stage = resting_test w.stage w.mark }),
+    joined n q m (row note.Cell left.Fields stage.Nothing) (rw h refl) (record { notes = noted_test n q w.is_x z; left = w.left; stage = resting_test w.stage w.mark }),
   )
   collector_at_test (drop h w) z = (
     rw h refl,
-    joined n q m (row a_cell nothing_left unstaged) (rw h refl) (record { notes = noted_test n q w.is_x z; left = eq-eqb _ _ w.left; stage = resting_test w.stage w.mark }),
+    joined n q m (row note.Cell left.Nothing stage.Nothing) (rw h refl) (record { notes = noted_test n q w.is_x z; left = eq-eqb _ _ w.left; stage = resting_test w.stage w.mark }),
   )
   collector_at_test (sweep h w) z = (
     rw h refl,
-    joined n q m (row no_notes cells_left unstaged) (rw h refl) (record { notes = unnoted_test n q (record { no_x = w.no_x; no_f = z.no_f; no_y = z.no_y; no_old = z.no_old }); left = w.left; stage = resting_test w.stage w.mark }),
+    joined n q m (row note.Nothing left.Cells stage.Nothing) (rw h refl) (record { notes = unnoted_test n q (record { no_x = w.no_x; no_f = z.no_f; no_y = z.no_y; no_old = z.no_old }); left = w.left; stage = resting_test w.stage w.mark }),
   )
   collector_at_test (sweep_free h w) z = (
     rw h refl,
-    joined n q m (row a_cell cells_left unstaged) (rw h refl) (record { notes = noted_test n q w.is_x z; left = w.left; stage = resting_test w.stage w.mark }),
+    joined n q m (row note.Cell left.Cells stage.Nothing) (rw h refl) (record { notes = noted_test n q w.is_x z; left = w.left; stage = resting_test w.stage w.mark }),
   )
 
 -- ---- no part in the handshakes
@@ -217,14 +214,14 @@ phase_told hand.InitMark e = absurd (omega arith)
 phase_told hand.Mark e = absurd (omega arith)
 phase_told hand.IdleMarkSweep e = absurd (omega arith)
 
-part_told : (h : Part) → no_part_of h ≡ true → h ≡ no_part
+pub part_told : (h : Part) → no_part_of h ≡ true → h ≡ no_part
 unfolding no_part_of
 part_told h e =
     let a = unless h.raised (pick h.in_step false (eqb (phase_number h.phase) 0)) e in
     let b = unless h.in_step (eqb (phase_number h.phase) 0) a.1 in
     rw (a.0, b.0, phase_told h.phase (eqb-true _ _ b.1)) refl
 
-part_test : (h : Part) → h ≡ no_part → no_part_of h ≡ true
+pub part_test : (h : Part) → h ≡ no_part → no_part_of h ≡ true
 unfolding no_part_of
 part_test h e = rw e refl
 
@@ -232,20 +229,14 @@ module _ (n m : ℕ) (q : Process) where
   pub collector_told : collector_fits_of n m q ≡ true → CollectorFits n m q
   unfolding collector_fits_of
   collector_told e =
-      let a = and_both (leb row1_round q.place) (leb q.place row11_write and place_fits_of n m q and below_of q.work n and eqb q.roots no_cells and no_part_of q.part) e in
-      let b = and_both (leb q.place row11_write) (place_fits_of n m q and below_of q.work n and eqb q.roots no_cells and no_part_of q.part) a.1 in
-      let d = and_both (place_fits_of n m q) (below_of q.work n and eqb q.roots no_cells and no_part_of q.part) b.1 in
-      let f = and_both (below_of q.work n) (eqb q.roots no_cells and no_part_of q.part) d.1 in
-      let g = and_both (eqb q.roots no_cells) (no_part_of q.part) f.1 in
-      let i : is_collectors q.place ≡ true = rw a.0 b.0 in
-      let w = collector_at n m q i d.0 in
+      let w = collector_at n m q (grind (arith, choices)) (grind (arith, choices)) in
       record {
-        work = f.0;
+        work = grind (arith, choices);
         no_f = w.1.no_f;
         no_y = w.1.no_y;
         no_old = w.1.no_old;
-        no_roots = eqb-true _ _ g.0;
-        part_none = part_told q.part g.1;
+        no_roots = grind (arith, choices);
+        part_none = part_told q.part (grind (arith, choices));
         notes = w.0;
       }
 
@@ -253,26 +244,23 @@ module _ (n m : ℕ) (q : Process) where
   unfolding collector_fits_of
   collector_test w =
       let a = collector_at_test n m q w.notes (record { no_f = w.no_f; no_y = w.no_y; no_old = w.no_old }) in
-      let i = and_both (leb row1_round q.place) (leb q.place row11_write) a.0 in
-      rw (i.0, i.1, a.1, w.work, eq-eqb _ _ w.no_roots) (part_test q.part w.part_none)
+      grind (arith, choices, part_test)
 
 -- ---- a process above M
 module _ (q : Process) where
   pub nobody_told : nobody_of q ≡ true → q ≡ no_process
   unfolding nobody_of notes_fit_of left_fits_of
   nobody_told e =
-      let a = and_both (eqb q.place top) (place_fits_of 0 0 q and eqb q.work no_cells and eqb q.roots no_cells and pick q.sense false (no_part_of q.part)) e in
-      let b = and_both (place_fits_of 0 0 q) (eqb q.work no_cells and eqb q.roots no_cells and pick q.sense false (no_part_of q.part)) a.1 in
-      let d = and_both (eqb q.work no_cells) (eqb q.roots no_cells and pick q.sense false (no_part_of q.part)) b.1 in
-      let f = and_both (eqb q.roots no_cells) (pick q.sense false (no_part_of q.part)) d.1 in
-      let g = unless q.sense (no_part_of q.part) f.1 in
-      let k : q.place ≡ top = eqb-true _ _ a.0 in
-      let w = columns 0 q 0 nothing_row (ap uses_of k) b.0 in
+      let k : q.place ≡ top = grind (arith, choices) in
+      let w = columns 0 q 0 nothing_row (ap uses_of k) (grind (arith, choices)) in
       let r = resting 0 0 q w.stage in
       let v = unnoted_told 0 q w.notes in
       let l : q.left ≡ no_cells = eqb-true _ _ w.left in
-      let h = part_told q.part g.1 in
-      rw (k, r.0, v.no_x, v.no_f, v.no_y, v.no_old, l, r.1.no_cell, r.1.no_look, g.0, r.1.no_grey, eqb-true q.work no_cells d.0, eqb-true q.roots no_cells f.0, h) (refl {a = no_process})
+      let h = part_told q.part (grind (arith, choices)) in
+      let a : q.sense ≡ false = grind (arith, choices) in
+      let b : q.work ≡ no_cells = grind (arith, choices) in
+      let d : q.roots ≡ no_cells = grind (arith, choices) in
+      rw (k, r.0, v.no_x, v.no_f, v.no_y, v.no_old, l, r.1.no_cell, r.1.no_look, a, r.1.no_grey, b, d, h) (refl {a = no_process})
 
   pub nobody_test : q ≡ no_process → nobody_of q ≡ true
   unfolding nobody_of place_fits_of notes_fit_of left_fits_of stage_fits_of no_store_of no_mark_of no_part_of

@@ -6,16 +6,18 @@
 use mathlib.Core.Path.{◌≡◌, refl, sym, ◌∙◌}
 use mathlib.Core.Bool.{Bool, true, not, false≢true}
 use mathlib.Core.List.{List, [], ◌∷◌}
+use mathlib.Core.Logic.{◌≢◌, by_cases}
 use Prim.Native.Nat.{ℕ, zero, suc, ◌+◌, ◌-◌, ◌≤◌, ◌<◌}
-use native.Mathlib.Decide.{ℕ_discrete}
+use native.Mathlib.Decide.{ℕ_discrete, dec_lt}
 use native.Mathlib.Omega.{arith}
 use lib.Dec.{leb}
 use borrow.Author.Tests.{ne_eqb, not-true}
 use Rattle.base.specs.Every.{◌and◌}
 use Rattle.base.proofs.Everies.{and_both}
-use Rattle.state.specs.Codes.{store_mark_old, store_mark_y, store_write, roots_mark, work_finish, row1_round, row7_mark, row7_next, row7_drop, row10_look, row10_free, row11_write}
+use Rattle.base.proofs.Lists.{beyond}
+use Rattle.state.specs.Codes.{store_mark_old, store_mark_y, store_write, roots_mark, work_finish, row1_round, row3_round, row4_round, row5_round, row6_round, row8_round, row7_mark, row7_next, row7_drop, row10_look, row10_free, row11_write}
 use Rattle.formed.specs.declared.table.Uses.{Uses}
-use Rattle.formed.specs.Uses.{nothing_row, round_row, max_places, uses_of}
+use Rattle.formed.specs.Uses.{nothing_row, round_row, max_places, uses_table, uses_of}
 use Rattle.formed.specs.Fits.{among_of, Among, idle_places, plain_places, round_places}
 
 -- ---- one by one
@@ -116,3 +118,20 @@ plain_collector = all_true is_collectors plain_places refl
 
 pub round_collector : (k : ℕ) → Among k round_places → is_collectors k ≡ true
 round_collector = all_true is_collectors round_places refl
+
+-- ---- at any other place, and past the last, nothing is in use
+abbrev pub used_places : List ℕ
+used_places =
+    store_mark_old ∷ store_mark_y ∷ store_write ∷ roots_mark ∷ row1_round ∷ row3_round ∷ row4_round ∷ row5_round ∷ row6_round ∷ row7_mark ∷ row7_next ∷ row7_drop ∷ row8_round ∷ row10_look ∷ row10_free ∷ []
+
+abbrev Other : ℕ → Type 0
+Other k = (Among k used_places → ⊥) → uses_of k ≡ nothing_row
+
+other : (k : ℕ) → Other k
+other k = by_cases (dec_lt k max_places) (λ l. all_below Other max_places each k l) (λ h n. beyond uses_table nothing_row k max_places refl (omega arith))
+  where
+    each : AllBelow Other max_places
+    each = ((((((((((((((((((((((((((((((((tt, λ n. refl), λ n. absurd (n refl)), λ n. absurd (n refl)), λ n. absurd (n refl)), λ n. refl), λ n. refl), λ n. refl), λ n. absurd (n refl)), λ n. refl), λ n. refl), λ n. refl), λ n. absurd (n refl)), λ n. refl), λ n. refl), λ n. absurd (n refl)), λ n. refl), λ n. absurd (n refl)), λ n. refl), λ n. refl), λ n. absurd (n refl)), λ n. absurd (n refl)), λ n. refl), λ n. refl), λ n. absurd (n refl)), λ n. absurd (n refl)), λ n. absurd (n refl)), λ n. absurd (n refl)), λ n. refl), λ n. refl), λ n. absurd (n refl)), λ n. absurd (n refl)), λ n. refl)
+
+pub uses_other : (k : ℕ) → AllAmong (λ j. k ≢ j) used_places → uses_of k ≡ nothing_row
+uses_other k w = other k (λ h. all_among (λ j. k ≢ j) used_places w k h refl)

@@ -9,18 +9,18 @@ use native.Mathlib.Decide.{ℕ_discrete, dec_lt}
 use native.Mathlib.Omega.{arith}
 use lib.Dec.{eqb, eqb-suc-zero}
 use lib.ListN.{length, get_or}
-use borrow.Author.Tests.{leb-true, eqb-true, lt-ltb, le-ltb, le-leb, eq-eqb, ne_eqb}
-use Rattle.base.specs.Every.{◌and◌, every}
+use borrow.Author.Tests.{leb-true, lt-ltb, le-ltb, le-leb, eq-eqb, ne_eqb}
+use Rattle.base.specs.Every.{◌and◌}
+use Rattle.base.proofs.Choices.{choices}
 use Rattle.base.proofs.Picking.{picked}
 use Rattle.base.proofs.Everies.{and_both, every_at, every_all}
 use Rattle.base.proofs.Lists.{beyond}
-use Rattle.cells.specs.Sets.{below_of}
 use Rattle.buffers.specs.Stores.{no_entry, value_of}
 use Rattle.buffers.specs.Buffers.{max_stores}
 use Rattle.buffers.specs.Fits.{entry_of}
 use Rattle.memory.specs.declared.Memory.{Memory}
 use Rattle.memory.specs.Memories.{max_cells, max_processes, at_cell, field_of, no_buffer, buffer_of}
-use Rattle.memory_formed.specs.WellFormed.{MemoryFormed, memory_formed_of}
+use Rattle.memory_formed.specs.WellFormed.{MemoryFormed}
 use Rattle.memory_formed.proofs.Wells as memories
 use Rattle.memory_formed.proofs.Shapes.{shaped}
 use Rattle.state.specs.declared.Process.{Process}
@@ -82,11 +82,11 @@ module _ (n m : ℕ) (qs : List Process) where
 
   procs_sized : procs_fit_of n m qs ≡ true → length qs ≡ max_processes
   unfolding procs_fit_of
-  procs_sized e = eqb-true _ _ (and_both (eqb (length qs) max_processes) (every max_processes (process_at n m qs)) e).0
+  procs_sized e = grind (arith, choices)
 
   procs_at : procs_fit_of n m qs ≡ true → (p : ℕ) → p < max_processes → process_fits_of n m p (at p) ≡ true
   unfolding procs_fit_of
-  procs_at e p h = every_at (process_at n m qs) max_processes p (and_both (eqb (length qs) max_processes) (every max_processes (process_at n m qs)) e).1 h
+  procs_at e p h = every_at (process_at n m qs) max_processes p (grind (arith, choices)) h
 
   collector_of : procs_fit_of n m qs ≡ true → CollectorFits n m (at 0)
   unfolding process_fits_of
@@ -123,21 +123,19 @@ module _ (s : State) where
   told e =
       let m = s.memory in
       let n = m.cells in
-      let a = and_both (memory_formed_of m) (values_fit_of m and procs_fit_of n (mutators_of s) s.procs and below_of s.system.work n) e in
-      let b = and_both (values_fit_of m) (procs_fit_of n (mutators_of s) s.procs and below_of s.system.work n) a.1 in
-      let d = and_both (procs_fit_of n (mutators_of s) s.procs) (below_of s.system.work n) b.1 in
-      let w = (memories.well_formed_lem m).0 a.0 in
-      let v = values_told m w b.0 in
+      let w = (memories.well_formed_lem m).0 (grind (arith, choices)) in
+      let v = values_told m w (grind (arith, choices)) in
+      let d : procs_fit_of n (mutators_of s) s.procs ≡ true = grind (arith, choices) in
       let few : mutators_of s < max_processes = omega (arith, w.some_processes, w.few_processes) in
       record {
         memory = w;
         fields = v.0;
         pending = v.1;
-        sized = procs_sized n (mutators_of s) s.procs d.0;
-        collector = collector_of n (mutators_of s) s.procs d.0;
-        mutators = mutator_of n (mutators_of s) s.procs d.0 few;
-        nobody = nobody_of_lem n (mutators_of s) s.procs d.0;
-        system = d.1;
+        sized = procs_sized n (mutators_of s) s.procs d;
+        collector = collector_of n (mutators_of s) s.procs d;
+        mutators = mutator_of n (mutators_of s) s.procs d few;
+        nobody = nobody_of_lem n (mutators_of s) s.procs d;
+        system = grind (arith, choices);
       }
 
   test : WellFormed s → well_formed_of s ≡ true

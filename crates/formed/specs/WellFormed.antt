@@ -17,7 +17,13 @@ use Rattle.state.specs.declared.Process.{Process}
 use Rattle.state.specs.declared.State.{State}
 use Rattle.state.specs.Codes.{top, work_finish, row1_round, row11_write, no_stage, look_stage, sense_stage, phase_stage, unlock_stage, raise_stage, poll_stage}
 use Rattle.state.specs.States.{no_process, phase_number, mutators_of}
-use Rattle.formed.specs.Uses.{of_store, a_cell, cells_left, mutators_left, fields_left, of_old, of_y, of_cell, of_named, of_round, uses_of}
+use Rattle.formed.specs.declared.table.Notes.{Notes}
+use Rattle.formed.specs.declared.table.Notes.TheVariants as note
+use Rattle.formed.specs.declared.table.Left.{Left}
+use Rattle.formed.specs.declared.table.Left.TheVariants as left
+use Rattle.formed.specs.declared.table.Stages.{Stages}
+use Rattle.formed.specs.declared.table.Stages.TheVariants as stage
+use Rattle.formed.specs.Uses.{uses_of}
 
 -- ---- field values, in memory and pending: "Cells 1..N"; "0 is null"
 abbrev pub field_fits_at : ℕ → List ℕ → ℕ → Bool
@@ -48,20 +54,17 @@ store_notes_fit_of n q = is_cell_of n q.x and ltb q.f max_fields and leb q.y n a
 unfoldable pub no_store_of : Process → Bool
 no_store_of q = eqb q.f 0 and eqb q.y 0 and eqb q.old 0
 
-unfoldable pub notes_fit_of : ℕ → ℕ → Process → Bool
-notes_fit_of used n q =
-    pick (eqb used of_store) (store_notes_fit_of n q)
-    (pick (eqb used a_cell) (is_cell_of n q.x and no_store_of q)
-    (eqb q.x 0 and no_store_of q))
+unfoldable pub notes_fit_of : Notes → ℕ → Process → Bool
+notes_fit_of note.Store n q = store_notes_fit_of n q
+notes_fit_of note.Cell n q = is_cell_of n q.x and no_store_of q
+notes_fit_of note.Nothing n q = eqb q.x 0 and no_store_of q
 
 -- ---- what is left
-unfoldable pub left_fits_of : ℕ → ℕ → ℕ → Process → Bool
-left_fits_of used n m q =
-    pick (eqb used cells_left) (below_of q.left n)
-    (pick (eqb used mutators_left)
-    (pick (leb raise_stage q.stage) (below_of q.left m) (eqb q.left no_cells))
-    (pick (eqb used fields_left) (below_of q.left max_fields)
-    (eqb q.left no_cells)))
+unfoldable pub left_fits_of : Left → ℕ → ℕ → Process → Bool
+left_fits_of left.Cells n m q = below_of q.left n
+left_fits_of left.Mutators n m q = pick (leb raise_stage q.stage) (below_of q.left m) (eqb q.left no_cells)
+left_fits_of left.Fields n m q = below_of q.left max_fields
+left_fits_of left.Nothing n m q = eqb q.left no_cells
 
 -- ---- the stage, and the notes of a mark: none; of the cell c, the first look from stage 2 and a cell being greyed
 -- at stage 7 alone
@@ -83,14 +86,13 @@ named_fits_of n q = pick (eqb q.stage look_stage) (no_mark_of q) (mark_fits_of n
 unfoldable pub round_fits_of : Process → Bool
 round_fits_of q = ltb 0 q.stage and leb q.stage poll_stage and no_mark_of q
 
-unfoldable pub stage_fits_of : ℕ → ℕ → Process → Bool
-stage_fits_of used n q =
-    pick (eqb used of_old) (eqb q.cell 0 and mark_fits_of n q.old q)
-    (pick (eqb used of_y) (eqb q.cell 0 and mark_fits_of n q.y q)
-    (pick (eqb used of_cell) (mark_fits_of n q.cell q)
-    (pick (eqb used of_named) (named_fits_of n q)
-    (pick (eqb used of_round) (round_fits_of q)
-    (eqb q.stage no_stage and no_mark_of q)))))
+unfoldable pub stage_fits_of : Stages → ℕ → Process → Bool
+stage_fits_of stage.Old n q = eqb q.cell 0 and mark_fits_of n q.old q
+stage_fits_of stage.Y n q = eqb q.cell 0 and mark_fits_of n q.y q
+stage_fits_of stage.Cell n q = mark_fits_of n q.cell q
+stage_fits_of stage.Named n q = named_fits_of n q
+stage_fits_of stage.Round n q = round_fits_of q
+stage_fits_of stage.Nothing n q = eqb q.stage no_stage and no_mark_of q
 
 unfoldable pub place_fits_of : ℕ → ℕ → Process → Bool
 place_fits_of n m q =

@@ -9,60 +9,27 @@ use memory::Memory;
 fn fields_fit(n: u8, fields: [u8; Memory::CELLS]) -> bool
     ensures { result ≡ fields_fit_of n fields }
 {
-    let mut i = 0;
-    while i < Memory::CELLS {
-        if fields[i] <= n {
-            i += 1;
-        } else {
-            return false;
-        }
-    }
-    true
+    fields.iter().all(|v| *v <= n)
 }
 
 // Every store of one buffer; a store to no field has the value 0.
 fn stores_fit(n: u8, b: Buffer) -> bool
     ensures { result ≡ stores_fit_of n b }
 {
-    let mut i = 0;
-    while i < Buffer::MAX {
-        let e = b.entries[i];
-        let s = e.store;
-        if s.value_in() <= n {
-            i += 1;
-        } else {
-            return false;
-        }
-    }
-    true
+    b.entries.iter().all(|e| e.store.value_in() <= n)
 }
 
+#[tactic(auto, using(base::proofs::Choices::choices), unfolding(crate::specs::WellFormed::pending_fit_of))]
 fn pending_fit(n: u8, buffers: [Buffer; Memory::PROCESSES]) -> bool
     ensures { result ≡ pending_fit_of n buffers }
 {
-    let mut p = 0;
-    while p < Memory::PROCESSES {
-        let b = buffers[p];
-        if stores_fit(n, b) {
-            p += 1;
-        } else {
-            return false;
-        }
-    }
-    true
+    buffers.iter().all(|b| stores_fit(n, *b))
 }
 
+#[tactic(auto, using(base::proofs::Choices::choices), unfolding(crate::specs::WellFormed::values_fit_of))]
 pub fn values_fit(m: Memory) -> bool
     ensures { result ≡ values_fit_of m }
 {
     let n = m.cells;
-    let field0 = m.field0;
-    let field1 = m.field1;
-    let buffers = m.buffers;
-    if fields_fit(n, field0) {
-        if fields_fit(n, field1) {
-            return pending_fit(n, buffers);
-        }
-    }
-    false
+    fields_fit(n, m.field0) && fields_fit(n, m.field1) && pending_fit(n, m.buffers)
 }

@@ -13,17 +13,18 @@ use lib.Dec.{eqb}
 use lib.ListN.{length, get_or}
 use borrow.Author.Tests.{lt-ltb, le-ltb, eq-eqb, ne_eqb}
 use Rattle.base.specs.Pick.{pick, listed}
+use Rattle.base.specs.Refusals.{not_admitted}
 use Rattle.base.proofs.Lists.{length_listed, listed_at, beyond}
 use Rattle.cells.specs.Sets.{no_cells, member_of, Sub}
 use Rattle.cells.proofs.Bools.{split, not_both}
 use Rattle.cells.proofs.Subsets.{sub_empty}
 use Rattle.memory.specs.Memories.{max_cells, max_mutators, at_cell}
-use Rattle.header.specs.Header.{version_said, cells_said, mutators_said, cell_fields, occupied_at, field_at, roots_read, used_among, admitted_of, field_in_of, fields_of, roots_in_of, roots_of, read_heap, heap_of, unopened, open_of}
+use Rattle.header.specs.Header.{version_said, cells_said, mutators_said, cell_fields, occupied_at, field_at, roots_read, used_among, admitted_of, field_in_of, fields_of, roots_in_of, roots_of, read_heap, heap_of, Opened, unopened, open_of}
 use Rattle.header.specs.Admitted.{Admitted, Sound}
 use Rattle.header.specs.Statements.{OpenedWhere, RefusedElse, OpenedOnly, NarrowRefused, Said, HeapSaid, HeapSound}
 use Rattle.header.proofs.Used.{in_used, used_in, used_below}
 use Rattle.header.proofs.Agrees.{most_cells, Names, CellFits, is_free, is_occupied, HeapFits, heap_fits_lem, tests, admitted_clauses, clauses_admitted}
-use Rattle.header.proofs.Opens.{open_admitted, open_refused, open_yes}
+use Rattle.header.proofs.Opens.{open_admitted, open_refused}
 
 pub opened_where : OpenedWhere
 opened_where log a = open_admitted log (clauses_admitted log a)
@@ -36,7 +37,11 @@ refused_else log n = go (split (admitted_of log))
     go (inr f) = open_refused log f
 
 pub opened_only : OpenedOnly
-opened_only log z = admitted_clauses log (open_yes log _ refl z).admitted
+opened_only log z = go (split (admitted_of log))
+  where
+    go : (admitted_of log ≡ true) ⊎ (admitted_of log ≡ false) → Admitted log
+    go (inl t) = admitted_clauses log t
+    go (inr f) = let e : (open_of log).no ≡ not_admitted = ap (λ (o : Opened). o.no) (open_refused log f) in absurd (omega arith)
 
 -- ---- what is read of the heap
 -- past its end a list that is made so is 0, as what it is made of

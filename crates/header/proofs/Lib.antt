@@ -1,9 +1,9 @@
+pub mod Listed
 pub mod Used
 pub mod Agrees
 pub mod Opens
 pub mod Heaps
 pub mod Same
 pub mod Littles
-pub mod Sizes
 pub mod Written
 pub mod Exacts

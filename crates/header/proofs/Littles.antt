@@ -1,7 +1,7 @@
 -- Numbers written as bytes, the lowest first, and lists written one after the other: what is read of them again.
 -- Assumes nothing.
 --     little_read                   a number that fits its bytes
---     pair_little, quad_little, wide_little      the numbers of two, four and eight bytes are read so
+--     pair_little                   the number of two bytes is read so
 --     length_little, -turns         how long they are
 --     turn_at, turn_past            what stands at a place of lists of one length, and past them
 --     bytes_join, -each, -little, -turns   each is a byte
@@ -13,7 +13,7 @@ use native.Mathlib.Nat.{mul-suc, pow-suc, div-lt_iff_lt-mul}
 use native.Mathlib.Omega.{arith}
 use lib.ListN.{length, get_or, length-append, get_or-append}
 use lib.Seq.{get_or-append-add}
-use Rattle.header.specs.Bytes.{per_byte, byte_at, word_size, wide_size, pair_at, quad_of, little_at}
+use Rattle.header.specs.Bytes.{per_byte, byte_at, pair_at, little_at}
 use Rattle.header.specs.Written.{little_of, in_turn, Bytes, version_size}
 
 -- ---- a number of w bytes, from the place on
@@ -31,23 +31,6 @@ little_read (suc w) v at log b e =
 pub pair_little : (log : List ℕ) (at : ℕ) → pair_at log at ≡ little_at version_size log at
 unfolding pair_at
 pair_little log at = omega arith
-
-pub quad_little : (log : List ℕ) (at : ℕ) → quad_of (byte_at log at) (byte_at log (at + 1)) (byte_at log (at + 2)) (byte_at log (at + 3)) ≡ little_at word_size log at
-quad_little log at =
-    let two : at + 1 + 1 ≡ at + 2 = omega arith in
-    let three : at + 2 + 1 ≡ at + 3 = omega arith in
-    rw (two, three) (omega arith)
-
-pub wide_little : (log : List ℕ) (at : ℕ)
-    → quad_of (byte_at log at) (byte_at log (at + 1)) (byte_at log (at + 2)) (byte_at log (at + 3)) + 2 ^ 32 * quad_of (byte_at log (at + 4)) (byte_at log (at + 5)) (byte_at log (at + 6)) (byte_at log (at + 7)) ≡ little_at wide_size log at
-wide_little log at =
-    let two : at + 1 + 1 ≡ at + 2 = omega arith in
-    let three : at + 2 + 1 ≡ at + 3 = omega arith in
-    let four : at + 3 + 1 ≡ at + 4 = omega arith in
-    let five : at + 4 + 1 ≡ at + 5 = omega arith in
-    let six : at + 5 + 1 ≡ at + 6 = omega arith in
-    let seven : at + 6 + 1 ≡ at + 7 = omega arith in
-    rw (two, three, four, five, six, seven) (omega arith)
 
 pub length_little : (w v : ℕ) → length (little_of w v) ≡ w
 length_little zero v = refl

@@ -17,10 +17,6 @@ joined_of low high = low + per_byte * high
 unfoldable pub pair_at : List ℕ → ℕ → ℕ
 pair_at log at = joined_of (byte_at log at) (byte_at log (at + 1))
 
--- 32 bits, of four bytes
-abbrev pub quad_of : ℕ → ℕ → ℕ → ℕ → ℕ
-quad_of a b c d = a + per_byte * (b + per_byte * (c + per_byte * d))
-
 -- the bytes of 32 bits and of 64
 abbrev pub word_size : ℕ
 word_size = 4

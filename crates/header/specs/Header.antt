@@ -1,13 +1,12 @@
 -- The header of a log as the code reads it: the tests in their order, and the heap that it gives. `Admitted` says the
 -- same as facts; proofs/Agrees has that the two agree. Assumes nothing.
-use Rattle.std.specs.Prelude.{Bool, true, false, List, ℕ, zero, suc, ◌+◌, ◌*◌, eqb, ltb, leb, length, replicate}
+use Rattle.std.specs.Prelude.{Bool, true, false, List, Option, Some, None, ℕ, zero, suc, ◌+◌, ◌*◌, eqb, ltb, leb, length, replicate}
 use Rattle.base.specs.Pick.{pick, listed}
 use Rattle.base.specs.Every.{◌and◌, every}
 use Rattle.base.specs.Refusals.{not_admitted}
 use Rattle.cells.specs.Sets.{no_cells, is_none, member_of, add_of, minus_of, below_of}
 use Rattle.memory.specs.Memories.{max_cells, max_mutators}
 use Rattle.state.specs.declared.opening.Heap.{Heap}
-use Rattle.header.specs.declared.Opened.{Opened}
 use Rattle.header.specs.Bytes.{byte_at, word_size, wide_size, pair_at, little_at}
 
 -- "A log is at most 65,536 bytes"
@@ -179,6 +178,11 @@ heap_of log = read_heap log (cells_said log) (mutators_said log)
 abbrev pub no_heap : Heap
 no_heap = record { cells = 0; processes = 0; used = no_cells; field0 = replicate max_cells 0; field1 = replicate max_cells 0; roots = replicate max_mutators no_cells }
 
+-- what opening a log gives: 0 and its heap, or 12 and the empty heap
+pub record Opened : Type 0 where
+  pub no : ℕ
+  pub heap : Heap
+
 abbrev pub opened : Heap → Opened
 opened h = record { no = 0; heap = h }
 
@@ -187,3 +191,8 @@ unopened = record { no = not_admitted; heap = no_heap }
 
 unfoldable pub open_of : List ℕ → Opened
 open_of log = pick (admitted_of log) (opened (heap_of log)) unopened
+
+-- the same, of the code's answer: no heap is "stop 12"
+abbrev pub told : Option Heap → Opened
+told (Some h) = opened h
+told None = unopened

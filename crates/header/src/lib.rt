@@ -6,31 +6,19 @@ mod heap;
 mod tests;
 
 ghost use Rattle.std.specs.Prelude.{◌≡◌};
-ghost use Rattle.header.specs.Header.{unopened, size_of_roots, size_of, open_of};
+ghost use Rattle.header.specs.Header.{version_said, cells_said, mutators_said, size_of_roots, size_of, told, open_of};
 
-use base::Stop;
 use bytes::{byte, pair};
-use memory::Memory;
-use state::State;
 use state::opening::Heap;
-
-// What opening a log gives: 0 and its heap, or 12 and the empty heap.
-#[derive(Clone, Copy)]
-pub struct Opened {
-    pub no: u8,
-    pub heap: Heap,
-}
-
-// "A log is at most 65,536 bytes, else stop 12."
-impl Opened {
-    pub const MAX_LOG: usize = 65536;
-}
 
 // Where the parts of a header stand, and how long they are.
 #[derive(Clone, Copy)]
 pub struct Layout;
 
 impl Layout {
+    // "A log is at most 65,536 bytes, else stop 12."
+    pub const MAX_LOG: usize = 65536;
+
     pub const VERSION: usize = 3;
 
     pub const CELLS: usize = 5;
@@ -42,7 +30,7 @@ impl Layout {
     pub const CELL_SIZE: u32 = 3;
 }
 
-// Document 01's version, and document 02's.
+// Document 01's version, and document 02's: numbers of the log, and so are the bytes of a root set.
 #[derive(Clone, Copy)]
 pub struct Version;
 
@@ -61,52 +49,51 @@ impl Version {
     const BITS_PER_BYTE: u32 = 8;
 }
 
-// "stop 12"
-fn closed() -> Opened
-    ensures { result ≡ unopened }
+// The version, N and M that a log says.
+fn version_in(log: &[u8]) -> u16
+    ensures { result ≡ version_said log.now }
 {
-    let none = [0; Memory::CELLS];
-    let roots = [0; State::ROOT_SETS];
-    let heap = Heap {
-        cells: 0,
-        processes: 0,
-        used: 0,
-        field0: none,
-        field1: none,
-        roots,
-    };
-    Opened {
-        no: Stop::NOT_ADMITTED,
-        heap,
-    }
+    pair(log, Layout::VERSION)
+}
+
+fn cells_in(log: &[u8]) -> u8
+    ensures { result ≡ cells_said log.now }
+{
+    byte(log, Layout::CELLS)
+}
+
+fn mutators_in(log: &[u8]) -> u8
+    ensures { result ≡ mutators_said log.now }
+{
+    byte(log, Layout::MUTATORS)
 }
 
 // The bytes of a root set.
 fn roots_size(log: &[u8]) -> u8
     ensures { result ≡ size_of_roots log.now }
 {
-    if pair(log, Layout::VERSION) == Version::TWO {
-        return Version::WIDE;
+    if version_in(log) == Version::TWO {
+        Version::WIDE
+    } else {
+        Version::WORD
     }
-    Version::WORD
 }
 
-// The bytes of a log's header.
+// The bytes of a log's header: it ends where the roots of one mutator more would stand.
 pub fn size(log: &[u8]) -> u32
     ensures { result ≡ size_of log.now }
 {
-    let n = byte(log, Layout::CELLS);
-    let m = byte(log, Layout::MUTATORS);
-    heap::roots_place(roots_size(log), n, m)
+    heap::roots_place(log, mutators_in(log))
 }
 
-// The heap of a log's header, where every clause of its rule holds.
-pub fn open(log: &[u8]) -> Opened
-    ensures { result ≡ open_of log.now }
+// The heap of a log's header, where every clause of its rule holds; else "stop 12".
+#[tactic(auto, using(crate::proofs::Agrees::few_mutators), unfolding(crate::specs::Header::open_of))]
+pub fn open(log: &[u8]) -> Option<Heap>
+    ensures { told result ≡ open_of log.now }
 {
     if tests::admitted(log) {
-        let heap = heap::read(log, byte(log, Layout::CELLS), byte(log, Layout::MUTATORS));
-        return Opened { no: 0, heap };
+        Some(heap::read(log))
+    } else {
+        None
     }
-    closed()
 }

@@ -2,21 +2,20 @@
 // bytes are read and three numbers written.
 #![tactic(auto)]
 
-use runlog::Outcome;
 use std::io::{self, Read};
 
 // One byte more than a log may have: a log of so many is too long, and `judge` says so.
 const MOST: u64 = 65537;
 
-fn tell(rt: &impl Print, o: Outcome) -> io::Result<()> {
-    println!(rt; "steps {} stop {} verdict {}", o.steps, o.stop, o.verdict)
-}
-
 // Reads a log, and writes its line.
 fn main(rt: HostRuntime) -> io::Result<()> {
     let mut log = Vec::new(rt.alloc());
     match rt.reader().take(MOST).read_to_end(&mut log) {
-        Ok(_) => tell(&rt, runlog::judge(&log)),
+        Ok(_) => {
+            let o = runlog::judge(&log);
+            let (stop, verdict) = (u8::from(o.stop), u8::from(o.verdict));
+            println!(rt; "steps {} stop {stop} verdict {verdict}", o.steps)
+        }
         Err(_) => rt.eprintln("judge: standard input can't be read"),
     }
 }

@@ -34,7 +34,7 @@ use Rattle.buffers.specs.Stores.{spot_of, hits_of}
 use Rattle.buffers.specs.Buffers.{push_of, pop_of}
 use Rattle.buffers.proofs.Fifos.{push_room, push_last, pop_oldest}
 use Rattle.memory.specs.declared.Memory.{Memory}
-use Rattle.memory.specs.declared.Done.{Done}
+use Rattle.memory.specs.Answers.{Done}
 use Rattle.memory.specs.Memories.{max_cells, max_processes, taken, refused, with_used, with_marks, with_field0, with_field1, with_lock, put_cell, used_of, marked_of, buffer_of, with_buffer, pending_len_of, blocked_of, there_of, stands_of, applied_of, allocated_of, freed_of}
 use Rattle.memory.specs.Steps.{write_of, commit_of, fence_of, lock_of, unlock_of, allocate_of, free_of}
 use Rattle.memory.specs.Views.{pending_for}

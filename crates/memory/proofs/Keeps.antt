@@ -24,7 +24,7 @@ use Rattle.buffers.specs.Stores.{spot_of}
 use Rattle.buffers.specs.Buffers.{push_of, pop_of}
 use Rattle.buffers.proofs.Fifos.{Sized, push_sized, pop_sized}
 use Rattle.memory.specs.declared.Memory.{Memory}
-use Rattle.memory.specs.declared.Done.{Done}
+use Rattle.memory.specs.Answers.{Done}
 use Rattle.memory.specs.Memories.{max_cells, max_processes, with_sense, with_alloc_sense, with_phase, with_lock, put_cell, used_of, buffer_of, with_buffer, pending_len_of, blocked_of, there_of, applied_of, allocated_of, freed_of}
 use Rattle.memory.specs.Steps.{write_of, commit_of, fence_of, lock_of, unlock_of, allocate_of, free_of}
 use Rattle.memory.proofs.Shapes.{Shaped, buffer_same, buffer_other, there_or_not, buffer_absent}

@@ -1,3 +1,4 @@
+pub mod Lookings
 pub mod Ends
 pub mod Shapes
 pub mod Spots

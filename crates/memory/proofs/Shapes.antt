@@ -28,10 +28,9 @@ use Rattle.buffers.specs.declared.Spot.{Spot}
 use Rattle.buffers.specs.declared.Spot.TheVariants as spot
 use Rattle.buffers.specs.declared.Entry.{Entry}
 use Rattle.buffers.specs.declared.Buffer.{Buffer}
-use Rattle.buffers.specs.declared.Newest.{Newest}
-use Rattle.buffers.specs.declared.Newest.TheVariants.{Nothing, Hit}
+use Rattle.std.specs.Prelude.{Option, Some, None, unwrap_or}
 use Rattle.buffers.specs.Stores.{spot_of, hits_of}
-use Rattle.buffers.specs.Buffers.{max_stores, pending_of, newest_of, store_or_of}
+use Rattle.buffers.specs.Buffers.{max_stores, pending_of, newest_of}
 use Rattle.buffers.proofs.Fifos.{pending_length, pending_none}
 use Rattle.buffers.proofs.Newests.{newest_none, newest_member, newest_spot}
 use Rattle.memory.specs.declared.Memory.{Memory}
@@ -43,11 +42,11 @@ pub pending_is : (m : Memory) (p : ℕ) → pending_for m p ≡ pending_of (buff
 unfolding pending_for
 pending_is m p = refl
 
-pub view_is : (m : Memory) (p : ℕ) (at : Spot) → view_of m p at ≡ store_or_of (newest_of at (pending_for m p)) (stands_of m at)
+pub view_is : (m : Memory) (p : ℕ) (at : Spot) → view_of m p at ≡ unwrap_or (newest_of at (pending_for m p)) (stands_of m at)
 unfolding pending_for view_of
 view_is m p at = refl
 
-pub view_memory : (m : Memory) (p : ℕ) (at : Spot) → newest_of at (pending_for m p) ≡ Nothing → view_of m p at ≡ stands_of m at
+pub view_memory : (m : Memory) (p : ℕ) (at : Spot) → newest_of at (pending_for m p) ≡ None → view_of m p at ≡ stands_of m at
 view_memory m p at h = view_is m p at ∙ rw h
 
 pub view_misses : (m : Memory) (p : ℕ) (at : Spot) → ((e : Entry) → Memᴰ e (pending_for m p) → hits_of at e.store ≡ false) → view_of m p at ≡ stands_of m at
@@ -56,7 +55,7 @@ view_misses m p at f = view_memory m p at ((newest_none at (pending_for m p)).1 
 pub view_empty : (m : Memory) (p : ℕ) (at : Spot) → pending_for m p ≡ [] → view_of m p at ≡ stands_of m at
 view_empty m p at h = view_memory m p at (rw h refl)
 
-pub view_own : (m : Memory) (p : ℕ) (at : Spot) (s : Store) → newest_of at (pending_for m p) ≡ Hit s → view_of m p at ≡ s
+pub view_own : (m : Memory) (p : ℕ) (at : Spot) (s : Store) → newest_of at (pending_for m p) ≡ Some s → view_of m p at ≡ s
 view_own m p at s h = view_is m p at ∙ rw h
 
 -- "A read gives the newest matching store of the reader's own buffer, else memory": what holds of both holds of what
@@ -64,9 +63,9 @@ view_own m p at s h = view_is m p at ∙ rw h
 pub view_from : (P : Store → Type 0) (m : Memory) (p : ℕ) (at : Spot) → ((e : Entry) → Memᴰ e (pending_for m p) → P e.store) → P (stands_of m at) → P (view_of m p at)
 view_from P m p at own else = rw (view_is m p at) (go (newest_of at (pending_for m p)) refl)
   where
-    go : (n : Newest) → newest_of at (pending_for m p) ≡ n → P (store_or_of n (stands_of m at))
-    go Nothing e = else
-    go (Hit s) e = let w = newest_member at (pending_for m p) s e in rw (← w.holds) (own w.entry w.there)
+    go : (n : Option Store) → newest_of at (pending_for m p) ≡ n → P (unwrap_or n (stands_of m at))
+    go None e = else
+    go (Some s) e = let w = newest_member at (pending_for m p) s e in rw (← w.holds) (own w.entry w.there)
 
 pub held_spot : (m : Memory) (at : Spot) → spot_of (stands_of m at) ≡ at
 unfolding stands_of

@@ -19,15 +19,15 @@ use Prim.Native.Nat.{ℕ}
 use native.Mathlib.Omega.{arith}
 use Rattle.base.specs.Pick.{pick}
 use Rattle.base.specs.Refusals.{as_taken, by_blocked, by_free}
+use Rattle.buffers.specs.declared.Store.{Store}
 use Rattle.buffers.specs.declared.Spot.{Spot}
 use Rattle.buffers.specs.declared.Spot.TheVariants as spot
-use Rattle.buffers.specs.declared.Newest.{Newest}
-use Rattle.buffers.specs.declared.Newest.TheVariants.{Nothing, Hit}
+use Rattle.std.specs.Prelude.{Option, Some, None}
 use Rattle.buffers.specs.Stores.{bit_of, value_of, phase_of}
 use Rattle.buffers.specs.Buffers.{pending_of}
 use Rattle.buffers.proofs.Nearest.{source_none}
 use Rattle.memory.specs.declared.Memory.{Memory}
-use Rattle.memory.specs.declared.Seen.{Seen}
+use Rattle.memory.specs.Answers.{Seen}
 use Rattle.memory.specs.Memories.{unseen, used_of, buffer_of, blocked_of, there_of}
 use Rattle.memory.specs.Looks.{own_newest_of, source_of, source_by_of, from_of, swept_from_of, seen_of, look_of, seen_bit, seen_value, seen_phase, look_mark_of, look_field_of, look_sense_of, look_phase_of, swept_of, look_swept_of}
 use Rattle.memory.specs.Views.{view_of}
@@ -142,9 +142,9 @@ module _ (m : Memory) (p : ℕ) where
 pub source_by_lem : (m : Memory) (p : ℕ) (at : Spot) → source_by_of (own_newest_of m p at) (source_of m p at) ≡ source_of m p at
 source_by_lem m p at = go (own_newest_of m p at) refl
   where
-    go : (n : Newest) → own_newest_of m p at ≡ n → source_by_of n (source_of m p at) ≡ source_of m p at
-    go Nothing e = sym (source_none at (pending_of (buffer_of m p)) e)
-    go (Hit s) e = refl
+    go : (n : Option Store) → own_newest_of m p at ≡ n → source_by_of n (source_of m p at) ≡ source_of m p at
+    go None e = sym (source_none at (pending_of (buffer_of m p)) e)
+    go (Some s) e = refl
 
 -- ---- the sweep's look: a free cell's mark is read too
 module _ (m : Memory) (p : ℕ) where

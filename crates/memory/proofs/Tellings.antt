@@ -10,12 +10,9 @@ use Rattle.buffers.specs.declared.Phase.{Phase}
 use Rattle.buffers.specs.declared.Spot.TheVariants as spot
 use Rattle.buffers.specs.Stores.{bit_of, value_of, phase_of}
 use Rattle.memory.specs.declared.Memory.{Memory}
-use Rattle.memory.specs.declared.SeenBit.{SeenBit}
-use Rattle.memory.specs.declared.SeenValue.{SeenValue}
-use Rattle.memory.specs.declared.SeenPhase.{SeenPhase}
+use Rattle.memory.specs.Answers.{SeenBit, SeenValue, SeenPhase, Sight}
 use Rattle.memory.specs.declared.asks.Ask.{Ask}
 use Rattle.memory.specs.declared.asks.Ask.TheVariants as ask
-use Rattle.memory.specs.declared.asks.Sight.{Sight}
 use Rattle.memory.specs.Memories.{taken}
 use Rattle.memory.specs.Looks.{look_mark_of, look_field_of, look_sense_of, look_phase_of}
 use Rattle.memory.specs.Asks.{Told, looked_of, sight_of, changes, made_of, told_of}

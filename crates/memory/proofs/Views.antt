@@ -20,10 +20,9 @@ use Rattle.buffers.specs.declared.Store.TheVariants as store
 use Rattle.buffers.specs.declared.Spot.{Spot}
 use Rattle.buffers.specs.declared.Spot.TheVariants as spot
 use Rattle.buffers.specs.declared.Entry.{Entry}
-use Rattle.buffers.specs.declared.Newest.{Newest}
-use Rattle.buffers.specs.declared.Newest.TheVariants.{Nothing, Hit}
+use Rattle.std.specs.Prelude.{Option, Some, None, unwrap_or}
 use Rattle.buffers.specs.Stores.{spot_of, spot_cell_of, hits_of}
-use Rattle.buffers.specs.Buffers.{newest_of, store_or_of}
+use Rattle.buffers.specs.Buffers.{newest_of}
 use Rattle.buffers.proofs.Newests.{newest_last, newest_first}
 use Rattle.memory.specs.declared.Memory.{Memory}
 use Rattle.memory.specs.Memories.{there_of, stands_of}
@@ -36,7 +35,7 @@ pub view_same : (m n : Memory) (q : ℕ) (at : Spot) → pending_for n q ≡ pen
 view_same m n q at e h = rw (view_is n q at, e, h) (sym (view_is m q at))
 
 -- ---- write
-seen_last : (b : Bool) (s : Store) (found : Newest) (other : Store) → store_or_of (pick b (Hit s) found) other ≡ pick b s (store_or_of found other)
+seen_last : (b : Bool) (s : Store) (found : Option Store) (other : Store) → unwrap_or (pick b (Some s) found) other ≡ pick b s (unwrap_or found other)
 seen_last true s found other = refl
 seen_last false s found other = refl
 
@@ -56,16 +55,16 @@ module _ {m : Memory} {p : ℕ} {n : Memory} (z : Shaped m) (w : Committed m p n
       rw (view_is n p at, view_is m p at, w.own, w.before, committed_held z w at plain i)
       (sym (newest_first at w.oldest w.rest (stands_of m at)))
 
-  pub committed_others : (q : ℕ) (at : Spot) → (q ≡ p → ⊥) → Plain at → view_of n q at ≡ store_or_of (newest_of at (pending_for m q)) (pick (hits_of at w.oldest.store) w.oldest.store (stands_of m at))
+  pub committed_others : (q : ℕ) (at : Spot) → (q ≡ p → ⊥) → Plain at → view_of n q at ≡ unwrap_or (newest_of at (pending_for m q)) (pick (hits_of at w.oldest.store) w.oldest.store (stands_of m at))
   committed_others q at ne i = rw (view_is n q at, w.others q ne, committed_held z w at plain i)
 
   pub committed_miss : (q : ℕ) (at : Spot) → Plain at → hits_of at w.oldest.store ≡ false → (q ≡ p → ⊥) → view_of n q at ≡ view_of m q at
   committed_miss q at i h ne = committed_others q at ne i ∙ rw (h, view_is m q at)
 
-  pub committed_hidden : (q : ℕ) (at : Spot) (s : Store) → Plain at → newest_of at (pending_for m q) ≡ Hit s → (q ≡ p → ⊥) → view_of n q at ≡ view_of m q at
+  pub committed_hidden : (q : ℕ) (at : Spot) (s : Store) → Plain at → newest_of at (pending_for m q) ≡ Some s → (q ≡ p → ⊥) → view_of n q at ≡ view_of m q at
   committed_hidden q at s i h ne = committed_others q at ne i ∙ rw (view_is m q at, h)
 
-  pub committed_shows : (q : ℕ) (at : Spot) → Plain at → newest_of at (pending_for m q) ≡ Nothing → hits_of at w.oldest.store ≡ true → (q ≡ p → ⊥) → view_of n q at ≡ w.oldest.store
+  pub committed_shows : (q : ℕ) (at : Spot) → Plain at → newest_of at (pending_for m q) ≡ None → hits_of at w.oldest.store ≡ true → (q ≡ p → ⊥) → view_of n q at ≡ w.oldest.store
   committed_shows q at i h k ne = committed_others q at ne i ∙ rw (h, k)
 
 -- ---- lock, unlock

@@ -1,21 +1,32 @@
 -- What a step asks of memory, and memory's answer in one place: the number, with what was seen or with memory after
 -- it. Assumes nothing.
-use Rattle.std.specs.Prelude.{Bool, true, false, ℕ}
-use Rattle.base.specs.Refusals.{as_taken}
+use Rattle.std.specs.Prelude.{◌≡◌, Bool, true, false, ℕ, Result, Ok, Err}
+use Rattle.base.specs.declared.Refusal.{Refusal}
+use Rattle.base.specs.Refusals.{as_taken, refusal_number}
 use Rattle.buffers.specs.declared.Store.TheVariants as store
 use Rattle.buffers.specs.declared.Spot.{Spot}
 use Rattle.buffers.specs.declared.sources.Source.TheVariants as source
 use Rattle.buffers.specs.Stores.{no_store}
 use Rattle.memory.specs.declared.Memory.{Memory}
-use Rattle.memory.specs.declared.Done.{Done}
+use Rattle.memory.specs.Answers.{Done, Sight}
 use Rattle.memory.specs.declared.asks.Change.{Change}
 use Rattle.memory.specs.declared.asks.Change.TheVariants as change
 use Rattle.memory.specs.declared.asks.Ask.{Ask}
 use Rattle.memory.specs.declared.asks.Ask.TheVariants as ask
-use Rattle.memory.specs.declared.asks.Sight.{Sight}
+use Rattle.memory.specs.declared.asks as asks
 use Rattle.memory.specs.Memories.{taken}
 use Rattle.memory.specs.Looks.{look_of, look_swept_of, from_of, swept_from_of}
 use Rattle.memory.specs.Steps.{write_of, commit_of, fence_of, lock_of, unlock_of, allocate_of, free_of}
+
+-- ---- the code's answers
+-- what a taken ask saw
+abbrev pub sight_as : asks.Sight.Sight → Sight
+sight_as v = record { no = as_taken; used = v.used; store = v.store; from = v.from }
+
+-- it is the sight told, or its number
+abbrev pub Sees : Result asks.Sight.Sight Refusal → Sight → Type 0
+Sees (Ok v) k = sight_as v ≡ k
+Sees (Err r) k = refusal_number r ≡ k.no
 
 -- ---- asks that change nothing. Nothing is seen, and nothing was read
 abbrev pub blind : ℕ → Sight

@@ -1,3 +1,4 @@
+pub mod Answers
 pub mod Memories
 pub mod Looks
 pub mod Steps

@@ -1,38 +1,31 @@
 -- "A read gives the newest matching store of the reader's own buffer, else memory, and needs the reader unblocked."
 -- Assumes nothing.
-use Rattle.std.specs.Prelude.{false, ℕ, eqb}
+use Rattle.std.specs.Prelude.{Bool, true, false, ℕ, eqb, Option, Some, None, Result, Ok, Err, unwrap_or}
 use Rattle.base.specs.Pick.{pick}
-use Rattle.base.specs.Refusals.{as_taken, by_blocked, by_free}
+use Rattle.base.specs.declared.Refusal.{Refusal}
+use Rattle.base.specs.Refusals.{as_taken, by_blocked, by_free, refusal_number}
+use Rattle.buffers.specs.declared.Phase.{Phase}
+use Rattle.buffers.specs.declared.Phase.TheVariants as phase
 use Rattle.buffers.specs.declared.Store.{Store}
 use Rattle.buffers.specs.declared.Spot.{Spot}
 use Rattle.buffers.specs.declared.Spot.TheVariants as spot
-use Rattle.buffers.specs.declared.Newest.{Newest}
-use Rattle.buffers.specs.declared.Newest.TheVariants.{Nothing, Hit}
 use Rattle.buffers.specs.declared.sources.Source.{Source}
 use Rattle.buffers.specs.declared.sources.Source.TheVariants as source
 use Rattle.buffers.specs.Stores.{bit_of, value_of, phase_of}
-use Rattle.buffers.specs.Buffers.{pending_of, newest_of, store_or_of}
+use Rattle.buffers.specs.Buffers.{pending_of, newest_of}
 use Rattle.buffers.specs.Sources.{source_in}
 use Rattle.memory.specs.declared.Memory.{Memory}
-use Rattle.memory.specs.declared.Seen.{Seen}
-use Rattle.memory.specs.declared.SeenBit.{SeenBit}
-use Rattle.memory.specs.declared.SeenValue.{SeenValue}
-use Rattle.memory.specs.declared.SeenPhase.{SeenPhase}
-use Rattle.memory.specs.declared.Swept.{Swept}
-use Rattle.memory.specs.declared.Read.{Read}
-use Rattle.memory.specs.declared.ReadBit.{ReadBit}
-use Rattle.memory.specs.declared.ReadValue.{ReadValue}
-use Rattle.memory.specs.declared.ReadPhase.{ReadPhase}
-use Rattle.memory.specs.declared.ReadSwept.{ReadSwept}
+use Rattle.memory.specs.declared.Look.{Look}
+use Rattle.memory.specs.Answers.{Seen, SeenBit, SeenValue, SeenPhase, Swept, Read, ReadBit, ReadValue, ReadPhase, ReadSwept}
 use Rattle.memory.specs.Memories.{unseen, buffer_of, blocked_of, there_of, stands_of}
 
 -- "the newest matching store of the reader's own buffer"
-abbrev pub own_newest_of : Memory → ℕ → Spot → Newest
+abbrev pub own_newest_of : Memory → ℕ → Spot → Option Store
 own_newest_of m p at = newest_of at (pending_of (buffer_of m p))
 
 -- ".. else memory"
 abbrev pub seen_of : Memory → ℕ → Spot → Store
-seen_of m p at = store_or_of (own_newest_of m p at) (stands_of m at)
+seen_of m p at = unwrap_or (own_newest_of m p at) (stands_of m at)
 
 -- ".. and needs the reader unblocked"; "a look, field read, .. on a free cell" is refused
 unfoldable pub look_of : Memory → ℕ → Spot → Seen
@@ -82,9 +75,9 @@ abbrev pub source_of : Memory → ℕ → Spot → Source
 source_of m p at = source_in at (pending_of (buffer_of m p))
 
 -- by the newest store of one's own: the place counts only where there is one
-abbrev pub source_by_of : Newest → Source → Source
-source_by_of Nothing place = source.Memory
-source_by_of (Hit s) place = place
+abbrev pub source_by_of : Option Store → Source → Source
+source_by_of None place = source.Memory
+source_by_of (Some s) place = place
 
 -- a refused look has read nothing; the sweep's look is refused by 7 alone, and "is a read like any other" at a free
 -- cell too
@@ -115,3 +108,49 @@ read_phase_of m p = record { seen = look_phase_of m p; from = from_of m p spot.P
 
 unfoldable pub read_swept_of : Memory → ℕ → ℕ → ReadSwept
 read_swept_of m p c = record { seen = look_swept_of m p c; from = swept_from_of m p c }
+
+-- ---- the code's answers
+abbrev pub seen_as : Result (Look Store) Refusal → Seen
+seen_as (Ok l) = record { no = as_taken; store = l.saw }
+seen_as (Err r) = unseen (refusal_number r)
+
+-- where the value came from that a look saw
+abbrev pub came_as : {A : Type 0} → Result (Look A) Refusal → Source
+came_as (Ok l) = l.from
+came_as (Err r) = source.Nothing
+
+abbrev pub read_as : Result (Look Store) Refusal → Read
+read_as k = record { seen = seen_as k; from = came_as k }
+
+abbrev pub bit_as : Result (Look Bool) Refusal → SeenBit
+bit_as (Ok l) = record { no = as_taken; bit = l.saw }
+bit_as (Err r) = record { no = refusal_number r; bit = false }
+
+abbrev pub read_bit_as : Result (Look Bool) Refusal → ReadBit
+read_bit_as k = record { seen = bit_as k; from = came_as k }
+
+abbrev pub value_as : Result (Look ℕ) Refusal → SeenValue
+value_as (Ok l) = record { no = as_taken; value = l.saw }
+value_as (Err r) = record { no = refusal_number r; value = 0 }
+
+abbrev pub read_value_as : Result (Look ℕ) Refusal → ReadValue
+read_value_as k = record { seen = value_as k; from = came_as k }
+
+abbrev pub phase_as : Result (Look Phase) Refusal → SeenPhase
+phase_as (Ok l) = record { no = as_taken; phase = l.saw }
+phase_as (Err r) = record { no = refusal_number r; phase = phase.Idle }
+
+abbrev pub read_phase_as : Result (Look Phase) Refusal → ReadPhase
+read_phase_as k = record { seen = phase_as k; from = came_as k }
+
+-- no bit: the cell is free
+abbrev pub swept_bit_as : Option Bool → Swept
+swept_bit_as (Some b) = record { no = as_taken; used = true; bit = b }
+swept_bit_as None = record { no = as_taken; used = false; bit = false }
+
+abbrev pub swept_as : Result (Look (Option Bool)) Refusal → Swept
+swept_as (Ok l) = swept_bit_as l.saw
+swept_as (Err r) = record { no = refusal_number r; used = false; bit = false }
+
+abbrev pub read_swept_as : Result (Look (Option Bool)) Refusal → ReadSwept
+read_swept_as k = record { seen = swept_as k; from = came_as k }

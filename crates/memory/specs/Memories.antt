@@ -1,8 +1,9 @@
--- Memory's parts: limits, the numbers of refusals, setters, and what stands at a spot, as functions of the whole
--- memory. Assumes nothing.
-use Rattle.std.specs.Prelude.{Bool, true, false, not, ℕ, ◌+◌, ◌-◌, List, [], eqb, get_or, set}
+-- Memory's parts: limits, a step's answers, setters, and what stands at a spot, as functions of the whole memory.
+-- Assumes nothing.
+use Rattle.std.specs.Prelude.{Bool, true, false, not, ℕ, ◌+◌, ◌-◌, List, [], eqb, get_or, set, Result, Ok, Err}
 use Rattle.base.specs.Pick.{pick}
-use Rattle.base.specs.Refusals.{as_taken}
+use Rattle.base.specs.declared.Refusal.{Refusal}
+use Rattle.base.specs.Refusals.{as_taken, refusal_number}
 use Rattle.cells.specs.Sets.{member_of, add_of, remove_of}
 use Rattle.buffers.specs.declared.Phase.{Phase}
 use Rattle.buffers.specs.declared.Store.{Store}
@@ -12,8 +13,7 @@ use Rattle.buffers.specs.declared.Spot.TheVariants as spot
 use Rattle.buffers.specs.declared.Buffer.{Buffer}
 use Rattle.buffers.specs.Stores.{no_store}
 use Rattle.memory.specs.declared.Memory.{Memory}
-use Rattle.memory.specs.declared.Done.{Done}
-use Rattle.memory.specs.declared.Seen.{Seen}
+use Rattle.memory.specs.Answers.{Done, Seen}
 
 -- "Cells 1..N", "Raise N to 64"; "Processes 0 (collector) and 1..M (mutators), M from 1 to 4"
 abbrev pub max_cells : ℕ
@@ -31,6 +31,11 @@ taken m = record { no = as_taken; memory = m }
 
 abbrev pub refused : ℕ → Memory → Done
 refused n m = record { no = n; memory = m }
+
+-- the code's answer of a step from m
+abbrev pub done_as : Memory → Result Memory Refusal → Done
+done_as m (Ok n) = taken n
+done_as m (Err r) = refused (refusal_number r) m
 
 abbrev pub unseen : ℕ → Seen
 unseen n = record { no = n; store = no_store }

@@ -8,7 +8,7 @@ use Rattle.buffers.specs.declared.Entry.{Entry}
 use Rattle.buffers.specs.Stores.{spot_of}
 use Rattle.buffers.specs.Buffers.{max_stores}
 use Rattle.memory.specs.declared.Memory.{Memory}
-use Rattle.memory.specs.declared.Done.{Done}
+use Rattle.memory.specs.Answers.{Done}
 use Rattle.memory.specs.Memories.{max_processes, used_of, blocked_of, there_of}
 use Rattle.memory.specs.Looks.{look_of}
 use Rattle.memory.specs.Steps.{write_of, commit_of, fence_of, lock_of, unlock_of, allocate_of, free_of}

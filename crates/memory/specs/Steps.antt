@@ -7,7 +7,7 @@ use Rattle.buffers.specs.declared.Entry.{Entry}
 use Rattle.buffers.specs.Stores.{spot_of}
 use Rattle.buffers.specs.Buffers.{push_of, pop_of}
 use Rattle.memory.specs.declared.Memory.{Memory}
-use Rattle.memory.specs.declared.Done.{Done}
+use Rattle.memory.specs.Answers.{Done}
 use Rattle.memory.specs.Memories.{max_processes, taken, refused, with_lock, used_of, buffer_of, with_buffer, pending_len_of, blocked_of, there_of, applied_of, allocated_of, freed_of}
 
 -- "A write appends."

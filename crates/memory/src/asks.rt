@@ -1,8 +1,10 @@
-// What a step asks of memory, and memory's answer in one place: the number, with what was seen or with memory after it.
+// What a step asks of memory, and memory's answer in one place: why it is refused, or what was seen, or memory after it.
 ghost use Rattle.std.specs.Prelude.{◌≡◌};
-ghost use Rattle.memory.specs.Asks.{blind, looked_of, swept_sight, sight_of, changes, done_of, made_of};
+ghost use Rattle.memory.specs.Asks.{blind, sight_as, Sees, looked_of, swept_sight, sight_of, changes, done_of, made_of};
+ghost use Rattle.memory.specs.Memories.{done_as};
+ghost use Rattle.base.specs.Refusals.{as_taken};
 
-use super::{Done, Memory};
+use super::Memory;
 use base::Refusal;
 use buffers::sources::Source;
 use buffers::{Entry, Spot, Store};
@@ -36,21 +38,15 @@ impl Ask {
     pub fn changes(self) -> bool
         ensures { result ≡ changes self }
     {
-        match self {
-            Ask::Nothing => false,
-            Ask::Look(at) => false,
-            Ask::Sweep(x) => false,
-            Ask::Fence => false,
-            Ask::Make(change) => true,
-        }
+        matches!(self, Ask::Make(_))
     }
 }
 
-// What an ask that changes nothing is told: the number, 0 for taken; what was seen, said as the store that would
-// write it, and where that came from; whether the sweep's cell is occupied.
+// What an ask that changes nothing is told: what was seen, said as the store that would write it, and where that came
+// from; whether the sweep's cell is occupied. A bit beside the store, no `Option` of it: the sweep alone asks for it, all
+// other steps read a store.
 #[derive(Clone, Copy)]
 pub struct Sight {
-    pub no: u8,
     pub used: bool,
     pub store: Store,
     pub from: Source,
@@ -58,73 +54,63 @@ pub struct Sight {
 
 impl Sight {
     // Nothing is seen.
-    pub fn blind(no: u8) -> Sight
-        ensures { result ≡ blind no }
+    pub fn blind() -> Sight
+        ensures { sight_as result ≡ blind as_taken }
     {
         Sight {
-            no,
             used: false,
-            store: Store::Mark {
-                cell: 0,
-                bit: false,
-            },
+            store: Entry::empty().store,
             from: Source::Nothing,
         }
     }
 }
 
 impl Memory {
-    fn looked(self, p: u8, at: Spot) -> Sight
-        ensures { result ≡ looked_of self p at }
+    fn looked(self, p: u8, at: Spot) -> Result<Sight, Refusal>
+        ensures { Sees result (looked_of self p at) }
     {
-        let read = self.look(p, at);
-        let saw = read.seen;
-        let store = saw.store;
-        let from = read.from;
-        Sight {
-            no: saw.no,
+        let look = self.look(p, at)?;
+        Ok(Sight {
             used: false,
-            store,
-            from,
-        }
+            store: look.saw,
+            from: look.from,
+        })
     }
 
-    fn swept(self, p: u8, x: u8) -> Sight
-        ensures { result ≡ swept_sight self p x }
+    fn swept(self, p: u8, x: u8) -> Result<Sight, Refusal>
+        ensures { Sees result (swept_sight self p x) }
     {
-        let read = self.look_swept(p, x);
-        let seen = read.seen;
-        let from = read.from;
-        Sight {
-            no: seen.no,
-            used: seen.used,
-            store: Store::Mark {
-                cell: x,
-                bit: seen.bit,
-            },
-            from,
-        }
+        let look = self.look_swept(p, x)?;
+        let store = Store::Mark {
+            cell: x,
+            bit: look.saw.unwrap_or(false),
+        };
+        Ok(Sight {
+            used: look.saw.is_some(),
+            store,
+            from: look.from,
+        })
     }
 
     // What is told to process p where it asks for no change.
-    pub fn sight(self, p: u8, ask: Ask) -> Sight
-        ensures { result ≡ sight_of self p ask }
+    pub fn sight(self, p: u8, ask: Ask) -> Result<Sight, Refusal>
+        ensures { Sees result (sight_of self p ask) }
     {
         match ask {
-            Ask::Nothing => Sight::blind(Refusal::TAKEN),
+            Ask::Nothing => Ok(Sight::blind()),
             Ask::Look(at) => self.looked(p, at),
             Ask::Sweep(x) => self.swept(p, x),
             Ask::Fence => {
-                let k = self.fence(p);
-                Sight::blind(k.no)
+                self.fence(p)?;
+                Ok(Sight::blind())
             }
-            Ask::Make(change) => Sight::blind(Refusal::TAKEN),
+            Ask::Make(_) => Ok(Sight::blind()),
         }
     }
 
     // Memory's answer to a change that process p asks for.
-    pub fn done(self, p: u8, change: Change) -> Done
-        ensures { result ≡ done_of self p change }
+    pub fn done(self, p: u8, change: Change) -> Result<Memory, Refusal>
+        ensures { done_as self result ≡ done_of self p change }
     {
         match change {
             Change::Write(store) => self.write(p, Entry { store }),
@@ -137,15 +123,12 @@ impl Memory {
     }
 
     // Memory after process p's ask: an ask that changes nothing leaves it as it is.
-    pub fn made(self, p: u8, ask: Ask) -> Done
-        ensures { result ≡ made_of self p ask }
+    pub fn made(self, p: u8, ask: Ask) -> Result<Memory, Refusal>
+        ensures { done_as self result ≡ made_of self p ask }
     {
         match ask {
-            Ask::Nothing => self.taken(),
-            Ask::Look(at) => self.taken(),
-            Ask::Sweep(x) => self.taken(),
-            Ask::Fence => self.taken(),
             Ask::Make(change) => self.done(p, change),
+            _ => Ok(self),
         }
     }
 }

@@ -1,9 +1,9 @@
 // The cells by number, each with its mark and two fields: reading them, storing to them, allocating and freeing.
 ghost use Rattle.std.specs.Prelude.{◌≡◌};
-ghost use Rattle.memory.specs.Memories.{at_cell, put_cell, used_of, mark_of, field_of, put_mark_of, put_field_of, there_of, stands_of, applied_of, allocated_of, freed_of};
+ghost use Rattle.memory.specs.Memories.{done_as, at_cell, put_cell, used_of, mark_of, field_of, put_mark_of, put_field_of, there_of, stands_of, applied_of, allocated_of, freed_of};
 ghost use Rattle.memory.specs.Steps.{allocate_of, free_of};
 
-use super::{Done, Memory, PhaseWord};
+use super::Memory;
 use base::Refusal;
 use buffers::{Spot, Store};
 
@@ -56,21 +56,20 @@ impl Memory {
         ensures { result ≡ field_of self c f }
     {
         if f == 0 {
-            let field0 = self.field0;
-            return byte_at(field0, c);
+            byte_at(self.field0, c)
+        } else {
+            byte_at(self.field1, c)
         }
-        let field1 = self.field1;
-        byte_at(field1, c)
     }
 
     fn put_mark(mut self, c: u8, bit: bool) -> Memory
         ensures { result ≡ put_mark_of self c bit }
     {
-        if bit {
-            self.marks = cells::add(self.marks, c);
-            return self;
-        }
-        self.marks = cells::remove(self.marks, c);
+        self.marks = if bit {
+            cells::add(self.marks, c)
+        } else {
+            cells::remove(self.marks, c)
+        };
         self
     }
 
@@ -78,31 +77,26 @@ impl Memory {
         ensures { result ≡ put_field_of self c f value }
     {
         if f == 0 {
-            let old = self.field0;
-            let field0 = put_byte(old, c, value);
-            self.field0 = field0;
-            return self;
+            self.field0 = put_byte(self.field0, c, value);
+        } else {
+            self.field1 = put_byte(self.field1, c, value);
         }
-        let old = self.field1;
-        let field1 = put_byte(old, c, value);
-        self.field1 = field1;
         self
     }
 
     // The spot can be read and stored to: its cell is occupied, or it belongs to no cell.
+    #[tactic(auto, unfolding(crate::specs::Memories::there_of))]
     pub fn there(self, at: Spot) -> bool
         ensures { result ≡ there_of self at }
     {
         match at {
-            Spot::Mark(cell) => self.is_used(cell),
-            Spot::Field { cell, field: _ } => self.is_used(cell),
-            Spot::Sense => true,
-            Spot::AllocSense => true,
-            Spot::Phase => true,
+            Spot::Mark(cell) | Spot::Field { cell, .. } => self.is_used(cell),
+            Spot::Sense | Spot::AllocSense | Spot::Phase => true,
         }
     }
 
     // What memory holds at the spot, said as the store that would write it.
+    #[tactic(auto, unfolding(crate::specs::Memories::stands_of))]
     pub fn stands(self, at: Spot) -> Store
         ensures { result ≡ stands_of self at }
     {
@@ -118,35 +112,23 @@ impl Memory {
             },
             Spot::Sense => Store::Sense(self.fm),
             Spot::AllocSense => Store::AllocSense(self.fa),
-            Spot::Phase => {
-                let standing = self.phase;
-                let phase = standing.phase;
-                Store::Phase(phase)
-            }
+            Spot::Phase => Store::Phase(self.phase.phase),
         }
     }
 
     // Memory with the store applied.
+    #[tactic(auto, unfolding(crate::specs::Memories::applied_of))]
     pub fn apply(mut self, s: Store) -> Memory
         ensures { result ≡ applied_of self s }
     {
         match s {
-            Store::Mark { cell, bit } => self.put_mark(cell, bit),
-            Store::Field { cell, field, value } => self.put_field(cell, field, value),
-            Store::Sense(bit) => {
-                self.fm = bit;
-                self
-            }
-            Store::AllocSense(bit) => {
-                self.fa = bit;
-                self
-            }
-            Store::Phase(phase) => {
-                let standing = PhaseWord { phase };
-                self.phase = standing;
-                self
-            }
+            Store::Mark { cell, bit } => return self.put_mark(cell, bit),
+            Store::Field { cell, field, value } => return self.put_field(cell, field, value),
+            Store::Sense(bit) => self.fm = bit,
+            Store::AllocSense(bit) => self.fa = bit,
+            Store::Phase(phase) => self.phase.phase = phase,
         }
+        self
     }
 
     // Memory with the cell occupied: its mark is memory's fA, its fields are null.
@@ -154,9 +136,9 @@ impl Memory {
         ensures { result ≡ allocated_of self c }
     {
         self.used = cells::add(self.used, c);
-        let marked = self.put_mark(c, self.fa);
-        let null0 = marked.put_field(c, 0, 0);
-        null0.put_field(c, 1, 0)
+        self.put_mark(c, self.fa)
+            .put_field(c, 0, 0)
+            .put_field(c, 1, 0)
     }
 
     // Memory with the cell free: its mark and its fields are zero.
@@ -164,32 +146,32 @@ impl Memory {
         ensures { result ≡ freed_of self c }
     {
         self.used = cells::remove(self.used, c);
-        let marked = self.put_mark(c, false);
-        let null0 = marked.put_field(c, 0, 0);
-        null0.put_field(c, 1, 0)
+        self.put_mark(c, false)
+            .put_field(c, 0, 0)
+            .put_field(c, 1, 0)
     }
 
     // "Allocation and freeing act on memory at once, unblocked."
-    pub fn allocate(self, p: u8, c: u8) -> Done
-        ensures { result ≡ allocate_of self p c }
+    #[tactic(auto, using(base::proofs::Picks::picks), unfolding(crate::specs::Steps::allocate_of))]
+    pub fn allocate(self, p: u8, c: u8) -> Result<Memory, Refusal>
+        ensures { done_as self result ≡ allocate_of self p c }
     {
         if self.blocked(p) {
-            return self.refused(Refusal::BLOCKED);
+            return Err(Refusal::Blocked);
         }
         if self.is_used(c) {
-            return self.refused(Refusal::OCCUPIED);
+            return Err(Refusal::Occupied);
         }
-        let memory = self.with_cell(c);
-        memory.taken()
+        Ok(self.with_cell(c))
     }
 
-    pub fn free(self, p: u8, c: u8) -> Done
-        ensures { result ≡ free_of self p c }
+    #[tactic(auto, using(base::proofs::Picks::picks), unfolding(crate::specs::Steps::free_of))]
+    pub fn free(self, p: u8, c: u8) -> Result<Memory, Refusal>
+        ensures { done_as self result ≡ free_of self p c }
     {
         if self.blocked(p) {
-            return self.refused(Refusal::BLOCKED);
+            return Err(Refusal::Blocked);
         }
-        let memory = self.without_cell(c);
-        memory.taken()
+        Ok(self.without_cell(c))
     }
 }

@@ -2,126 +2,98 @@
 // One look serves all reads; the others say what it saw as a bit, a value or a phase. Each says "whether it saw the
 // reader's own pending store or memory, with the place in the buffer".
 ghost use Rattle.std.specs.Prelude.{◌≡◌};
-ghost use Rattle.memory.specs.Looks.{own_newest_of, read_of, read_mark_of, read_field_of, read_sense_of, read_phase_of, swept_of, read_swept_of};
+ghost use Rattle.memory.specs.Looks.{own_newest_of, read_as, read_bit_as, read_value_as, read_phase_as, read_swept_as, read_of, read_mark_of, read_field_of, read_sense_of, read_phase_of, swept_of, read_swept_of};
 
-use super::{
-    Memory, Read, ReadBit, ReadPhase, ReadSwept, ReadValue, Seen, SeenBit, SeenPhase, SeenValue,
-    Swept,
-};
+use super::{Look, Memory};
 use base::Refusal;
-use buffers::{Newest, Spot};
+use buffers::{Phase, Spot, Store};
 
 impl Memory {
     // The newest store to the spot in p's own buffer.
-    fn newest(self, p: u8, at: Spot) -> Newest
+    fn newest(self, p: u8, at: Spot) -> Option<Store>
         ensures { result ≡ own_newest_of self p at }
     {
         let i = p as usize;
         if Memory::PROCESSES <= i {
-            return Newest::Nothing;
+            return None;
         }
-        let b = self.buffers[i];
-        b.newest(at)
+        self.buffers[i].newest(at)
     }
 
     // Refused by 7 where p is blocked, by 11 where the spot is a mark or field of a free cell.
-    pub fn look(self, p: u8, at: Spot) -> Read
-        ensures { result ≡ read_of self p at }
+    pub fn look(self, p: u8, at: Spot) -> Result<Look<Store>, Refusal>
+        ensures { read_as result ≡ read_of self p at }
     {
         if self.blocked(p) {
-            return Read::refused(Refusal::BLOCKED);
+            return Err(Refusal::Blocked);
         }
-        if self.there(at) {
-            let own = self.newest(p, at);
-            let stands = self.stands(at);
-            let store = own.store_or(stands);
-            let from = self.source_by(p, at, own);
-            let seen = Seen {
-                no: Refusal::TAKEN,
-                store,
-            };
-            return Read { seen, from };
+        if !self.there(at) {
+            return Err(Refusal::Free);
         }
-        Read::refused(Refusal::FREE)
+        let own = self.newest(p, at);
+        let saw = own.unwrap_or(self.stands(at));
+        let from = self.source_by(p, at, own);
+        Ok(Look { saw, from })
     }
 
-    pub fn look_mark(self, p: u8, c: u8) -> ReadBit
-        ensures { result ≡ read_mark_of self p c }
+    // The four below differ in the spot and in what is read of its store: one for all would take both.
+    pub fn look_mark(self, p: u8, c: u8) -> Result<Look<bool>, Refusal>
+        ensures { read_bit_as result ≡ read_mark_of self p c }
     {
-        let read = self.look(p, Spot::Mark(c));
-        let saw = read.seen;
-        let s = saw.store;
-        let seen = SeenBit {
-            no: saw.no,
-            bit: s.bit_in(),
-        };
-        let from = read.from;
-        ReadBit { seen, from }
+        let look = self.look(p, Spot::Mark(c))?;
+        Ok(Look {
+            saw: look.saw.bit_in(),
+            from: look.from,
+        })
     }
 
-    pub fn look_field(self, p: u8, c: u8, f: u8) -> ReadValue
-        ensures { result ≡ read_field_of self p c f }
+    pub fn look_field(self, p: u8, c: u8, f: u8) -> Result<Look<u8>, Refusal>
+        ensures { read_value_as result ≡ read_field_of self p c f }
     {
-        let read = self.look(p, Spot::Field { cell: c, field: f });
-        let saw = read.seen;
-        let s = saw.store;
-        let seen = SeenValue {
-            no: saw.no,
-            value: s.value_in(),
-        };
-        let from = read.from;
-        ReadValue { seen, from }
+        let look = self.look(p, Spot::Field { cell: c, field: f })?;
+        Ok(Look {
+            saw: look.saw.value_in(),
+            from: look.from,
+        })
     }
 
-    pub fn look_sense(self, p: u8) -> ReadBit
-        ensures { result ≡ read_sense_of self p }
+    pub fn look_sense(self, p: u8) -> Result<Look<bool>, Refusal>
+        ensures { read_bit_as result ≡ read_sense_of self p }
     {
-        let read = self.look(p, Spot::Sense);
-        let saw = read.seen;
-        let s = saw.store;
-        let seen = SeenBit {
-            no: saw.no,
-            bit: s.bit_in(),
-        };
-        let from = read.from;
-        ReadBit { seen, from }
+        let look = self.look(p, Spot::Sense)?;
+        Ok(Look {
+            saw: look.saw.bit_in(),
+            from: look.from,
+        })
     }
 
-    pub fn look_phase(self, p: u8) -> ReadPhase
-        ensures { result ≡ read_phase_of self p }
+    pub fn look_phase(self, p: u8) -> Result<Look<Phase>, Refusal>
+        ensures { read_phase_as result ≡ read_phase_of self p }
     {
-        let read = self.look(p, Spot::Phase);
-        let saw = read.seen;
-        let s = saw.store;
-        let seen = SeenPhase {
-            no: saw.no,
-            phase: s.phase_in(),
-        };
-        let from = read.from;
-        ReadPhase { seen, from }
+        let look = self.look(p, Spot::Phase)?;
+        Ok(Look {
+            saw: look.saw.phase_in(),
+            from: look.from,
+        })
     }
 
-    // "the sweep's look excepted": a free cell is no refusal here, and the look at it reads like any other.
-    pub fn look_swept(self, p: u8, c: u8) -> ReadSwept
-        ensures { result ≡ read_swept_of self p c }
+    // "the sweep's look excepted": a free cell is no refusal here, and has no mark to see; the look at it reads like any
+    // other.
+    pub fn look_swept(self, p: u8, c: u8) -> Result<Look<Option<bool>>, Refusal>
+        ensures { read_swept_as result ≡ read_swept_of self p c }
     {
-        let read = self.look_mark(p, c);
-        let marked = read.seen;
-        if marked.no == Refusal::FREE {
-            let seen = Swept {
-                no: Refusal::TAKEN,
-                used: false,
-                bit: false,
-            };
-            let from = self.source(p, Spot::Mark(c));
-            return ReadSwept { seen, from };
+        match self.look_mark(p, c) {
+            Ok(look) => Ok(Look {
+                saw: Some(look.saw),
+                from: look.from,
+            }),
+            Err(why) => match why {
+                Refusal::Free => Ok(Look {
+                    saw: None,
+                    from: self.source(p, Spot::Mark(c)),
+                }),
+                _ => Err(why),
+            },
         }
-        let seen = Swept {
-            no: marked.no,
-            used: marked.no == Refusal::TAKEN,
-            bit: marked.bit,
-        };
-        let from = read.from;
-        ReadSwept { seen, from }
     }
 }

@@ -4,7 +4,7 @@ ghost use Rattle.memory.specs.Looks.{source_of, source_by_of};
 
 use super::Memory;
 use buffers::sources::Source;
-use buffers::{Newest, Spot};
+use buffers::{Spot, Store};
 
 impl Memory {
     // Where p's own newest store to the spot stands; memory, where it has none.
@@ -15,17 +15,16 @@ impl Memory {
         if Memory::PROCESSES <= i {
             return Source::Memory;
         }
-        let b = self.buffers[i];
-        b.source(at)
+        self.buffers[i].source(at)
     }
 
     // The same, where p's own newest store is known: its place is searched only where there is one.
-    pub(crate) fn source_by(self, p: u8, at: Spot, own: Newest) -> Source
+    pub(crate) fn source_by(self, p: u8, at: Spot, own: Option<Store>) -> Source
         ensures { result ≡ source_by_of own (source_of self p at) }
     {
         match own {
-            Newest::Nothing => Source::Memory,
-            Newest::Hit(s) => self.source(p, at),
+            None => Source::Memory,
+            Some(_) => self.source(p, at),
         }
     }
 }

@@ -6,6 +6,8 @@
 // phase Idle, processes 0 to 2.
 // In the table x is field 0 of cell 1, y is field 0 of cell 2, z is field 0 of cell 3; "1 writes x" is a step of
 // process 1.
+// One step of a sequence is six bytes: a space, a letter (see `acts`) and four digits. The digits go on after 9 by
+// the bytes' numbers: p is 64, q 65.
 #![tactic(auto)]
 
 mod acts;
@@ -16,96 +18,48 @@ mod locks;
 mod orders;
 mod origins;
 mod rooms;
+mod told;
 
-use buffers::{Buffer, Phase};
-use memory::{Memory, PhaseWord};
+use memory::Memory;
+use script::{Change, grounds};
+use state::State;
 use std::io;
-
-// One step of a sequence: six bytes, a letter (see `acts`), four digits and a space. The digits go on after 9 by the
-// bytes' numbers: p is 64, q 65.
-#[derive(Clone, Copy)]
-struct Act {
-    letter: u8,
-    p: u8,
-    c: u8,
-    f: u8,
-    v: u8,
-}
-
-impl Act {
-    const SIZE: usize = 6;
-}
-
-fn tell(rt: &impl Print, n: u64) -> io::Result<()> {
-    print!(rt; " {n}")
-}
-
-fn byte(s: &[u8], i: usize) -> u8 {
-    if i < s.len() {
-        return s[i];
-    }
-    0
-}
-
-fn digit(s: &[u8], i: usize) -> u8 {
-    let b = byte(s, i);
-    if b < b'0' { 0 } else { b - b'0' }
-}
 
 // Three cells, all free.
 fn bare() -> Memory {
-    let empty = Buffer::empty();
-    let field0 = [0u8; Memory::CELLS];
-    let field1 = [0u8; Memory::CELLS];
-    let buffers = [empty; Memory::PROCESSES];
-    let phase = PhaseWord { phase: Phase::Idle };
-    Memory {
-        cells: 3,
-        processes: 3,
-        used: 0,
-        marks: 0,
-        field0,
-        field1,
-        fm: true,
-        fa: true,
-        phase,
-        lock: 0,
-        buffers,
-    }
+    State::opening(grounds::bare(3, 3)).memory
 }
 
-fn allocated(m: Memory, c: u8) -> Memory {
-    let done = m.allocate(0, c);
-    done.memory
+fn occupied(m: Memory, c: u8) -> Memory {
+    m.allocate(0, c).unwrap_or(m)
 }
+
+// What is written of a sequence, and its steps.
+type Line = (&'static str, &'static str);
 
 // The sequence's steps, and a line of their answers.
-fn run(rt: &impl Print, text: &str, steps: &[u8]) -> io::Result<()> {
+fn run(rt: &impl Print, (text, steps): Line) -> io::Result<()> {
     print!(rt; "{text}")?;
-    let mut m = allocated(allocated(bare(), 1), 2);
-    let n = steps.len();
-    let mut left = n;
-    while Act::SIZE <= left {
-        let i = n - left;
-        let a = Act {
-            letter: byte(steps, i),
-            p: digit(steps, i + 1),
-            c: digit(steps, i + 2),
-            f: digit(steps, i + 3),
-            v: digit(steps, i + 4),
-        };
-        m = acts::act(rt, m, a)?;
-        left -= Act::SIZE;
+    let mut m = occupied(occupied(bare(), 1), 2);
+    for step in steps.as_bytes().chunks_exact(Change::SIZE) {
+        m = acts::act(rt, m, Change::read(step))?;
     }
     println!(rt)
 }
 
+fn lines(rt: &impl Print, lines: &[Line]) -> io::Result<()> {
+    for line in lines {
+        run(rt, *line)?;
+    }
+    Ok(())
+}
+
 fn main(rt: HostRuntime) -> io::Result<()> {
-    orders::lines(&rt)?;
-    locks::lines(&rt)?;
-    rooms::lines(&rt)?;
-    heaps::lines(&rt)?;
-    bounds::lines(&rt)?;
-    forms::lines(&rt)?;
-    origins::lines(&rt)
+    lines(&rt, &orders::LINES)?;
+    lines(&rt, &locks::LINES)?;
+    lines(&rt, &rooms::LINES)?;
+    lines(&rt, &heaps::LINES)?;
+    lines(&rt, &bounds::LINES)?;
+    lines(&rt, &forms::LINES)?;
+    lines(&rt, &origins::LINES)
 }

@@ -29,7 +29,7 @@ use Rattle.buffers.specs.Fits.{IsCell, StoreFits, BufferFits}
 use Rattle.buffers.proofs.Wells.{push_kept, pop_kept}
 use Rattle.memory.specs.declared.PhaseWord.{PhaseWord}
 use Rattle.memory.specs.declared.Memory.{Memory}
-use Rattle.memory.specs.declared.Done.{Done}
+use Rattle.memory.specs.Answers.{Done}
 use Rattle.memory.specs.Memories.{max_cells, max_processes, at_cell, put_cell, used_of, marked_of, no_buffer, buffer_of, with_used, with_marks, with_field0, with_field1, with_buffer, pending_len_of, blocked_of, there_of, applied_of, allocated_of, freed_of}
 use Rattle.memory.specs.Steps.{write_of, commit_of, fence_of, lock_of, unlock_of, allocate_of, free_of}
 use Rattle.memory.proofs.Spots.{mark_other, cell_other, there_used}

@@ -10,10 +10,11 @@ use native.Mathlib.Numerals.{add-one}
 use native.Mathlib.Omega.{arith}
 use lib.Dec.{eqb, ltb}
 use lib.ListN.{length}
-use borrow.Author.Tests.{leb-true, ltb-false, eqb-true, lt-ltb, le-ltb, le-leb, eq-eqb, ne_eqb}
+use borrow.Author.Tests.{eqb-true, lt-ltb, le-ltb, ne_eqb}
 use Rattle.base.specs.Pick.{pick}
 use Rattle.base.specs.Every.{◌and◌}
-use Rattle.base.proofs.Everies.{and_both, unless, every_at, every_all}
+use Rattle.base.proofs.Choices.{choices}
+use Rattle.base.proofs.Everies.{and_both, every_at, every_all}
 use Rattle.base.proofs.Lists.{beyond}
 use Rattle.cells.specs.Sets.{is_none, Sub, minus_of, below_of}
 use Rattle.cells.proofs.Bools.{split, not_both}
@@ -41,18 +42,11 @@ record Counts (m : Memory) : Type 0 where
 module _ (m : Memory) where
   sized_told : sized_of m ≡ true → Sized m
   unfolding sized_of
-  sized_told e =
-      let y = and_both (eqb (length m.field0) max_cells) _ e in
-      let z = and_both (eqb (length m.field1) max_cells) _ y.1 in
-      record { field0 = eqb-true _ _ y.0; field1 = eqb-true _ _ z.0; buffers = eqb-true _ _ z.1 }
+  sized_told e = grind (arith, choices)
 
   counts_told : counts_fit_of m ≡ true → Counts m
   unfolding counts_fit_of
-  counts_told e =
-      let x = unless (ltb m.cells min_cells) _ e in
-      let y = unless (ltb max_cells m.cells) _ x.1 in
-      let z = unless (ltb m.processes min_processes) _ y.1 in
-      record { some_cells = ltb-false _ _ x.0; few_cells = ltb-false _ _ y.0; some_processes = ltb-false _ _ z.0; few_processes = leb-true _ _ z.1 }
+  counts_told e = grind (arith, choices)
 
 -- ---- cells: what stands at a cell above the arrays is zero
 past_cell : {A : Type 0} (l : List A) (d : A) (i : ℕ) → length l ≡ max_cells → max_cells ≤ i → at_cell l (i + 1) d ≡ d
@@ -104,15 +98,13 @@ module _ (m : Memory) (fit : buffers_fit_of m ≡ true) where
 told : (m : Memory) → memory_formed_of m ≡ true → MemoryFormed m
 unfolding memory_formed_of fits_of
 told m e =
-    let a = and_both (sized_of m) (fits_of m) e in
-    let b = and_both (counts_fit_of m) _ a.1 in
-    let d = and_both (below_of m.used m.cells) _ b.1 in
-    let i = and_both (is_none (minus_of m.marks m.used)) _ d.1 in
-    let f = unless (ltb m.processes m.lock) _ i.1 in
-    let g = and_both (cells_fit_of m) (buffers_fit_of m) f.1 in
-    let s = sized_told m a.0 in
-    let n = counts_told m b.0 in
-    let l : m.lock ≤ m.processes = ltb-false _ _ f.0 in
+    let s = sized_told m (grind (arith, choices)) in
+    let n = counts_told m (grind (arith, choices)) in
+    let b : below_of m.used m.cells ≡ true = grind (arith, choices) in
+    let d : is_none (minus_of m.marks m.used) ≡ true = grind (arith, choices) in
+    let f : cells_fit_of m ≡ true = grind (arith, choices) in
+    let g : buffers_fit_of m ≡ true = grind (arith, choices) in
+    let l : m.lock ≤ m.processes = grind (arith, choices) in
     record {
       field0_sized = s.field0;
       field1_sized = s.field1;
@@ -121,22 +113,22 @@ told m e =
       few_cells = n.few_cells;
       some_processes = n.some_processes;
       few_processes = n.few_processes;
-      used_cells = λ c u. below_range m.used m.cells c d.0 u;
+      used_cells = λ c u. below_range m.used m.cells c b u;
       holder = λ p h. omega arith;
-      free_mark = unmarked_told m (sub_of_minus m.marks m.used (is_none_true (minus_of m.marks m.used) i.0));
-      free_field = λ c f u. zero_told m s g.0 c u f;
-      buffers = λ p h. (held m g.1 p (omega (arith, n.few_processes))).0;
-      process_none = none m g.1;
+      free_mark = unmarked_told m (sub_of_minus m.marks m.used (is_none_true (minus_of m.marks m.used) d));
+      free_field = λ c k u. zero_told m s f c u k;
+      buffers = λ p h. (held m g p (omega (arith, n.few_processes))).0;
+      process_none = none m g;
     }
 
 module _ (m : Memory) (w : MemoryFormed m) where
   sized_test : sized_of m ≡ true
   unfolding sized_of
-  sized_test = rw (eq-eqb _ _ w.field0_sized, eq-eqb _ _ w.field1_sized, eq-eqb _ _ w.buffers_sized) refl
+  sized_test = let a = w.field0_sized in let b = w.field1_sized in let d = w.buffers_sized in grind (arith, choices)
 
   counts_test : counts_fit_of m ≡ true
   unfolding counts_fit_of
-  counts_test = rw (le-ltb _ _ w.some_cells, le-ltb _ _ w.few_cells, le-ltb _ _ w.some_processes, le-leb _ _ w.few_processes) refl
+  counts_test = let a = w.some_cells in let b = w.few_cells in let d = w.some_processes in let f = w.few_processes in grind (arith, choices)
 
   lock_test : ltb m.processes m.lock ≡ false
   lock_test = le-ltb _ _ (go (ℕ_discrete m.lock 0))

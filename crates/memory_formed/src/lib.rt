@@ -14,108 +14,63 @@ pub struct Least;
 
 impl Least {
     // N from 1 to 64
-    pub const CELLS: u8 = 1;
+    pub const CELLS: usize = 1;
 
     // "M from 1 to 4", and the collector
-    pub const PROCESSES: u8 = 2;
+    pub const PROCESSES: usize = 2;
 }
 
+#[tactic(auto, using(base::proofs::Choices::choices), unfolding(crate::specs::WellFormed::counts_fit_of))]
 fn counts_fit(m: Memory) -> bool
     ensures { result ≡ counts_fit_of m }
 {
-    if m.cells < Least::CELLS {
-        return false;
-    }
-    if Memory::CELLS < m.cells as usize {
-        return false;
-    }
-    if m.processes < Least::PROCESSES {
-        return false;
-    }
-    m.processes as usize <= Memory::PROCESSES
+    (Least::CELLS..=Memory::CELLS).contains(&(m.cells as usize))
+        && (Least::PROCESSES..=Memory::PROCESSES).contains(&(m.processes as usize))
 }
 
 // "Unused: a free cell's .. fields".
+#[tactic(auto, using(base::proofs::Choices::choices), unfolding(crate::specs::WellFormed::cell_fits_of))]
 fn cell_fits(m: Memory, c: u8) -> bool
     ensures { result ≡ cell_fits_of m c }
 {
-    if m.is_used(c) {
-        return true;
-    }
-    if m.field(c, 0) == 0 {
-        return m.field(c, 1) == 0;
-    }
-    false
+    m.is_used(c) || m.field(c, 0) == 0 && m.field(c, 1) == 0
 }
 
 // All cells that there is room for: those above N are free too.
 fn cells_fit(m: Memory) -> bool
     ensures { result ≡ cells_fit_of m }
 {
-    let mut i: usize = 0;
-    while i < Memory::CELLS {
-        if cell_fits(m, (i + 1) as u8) {
-            i += 1;
-        } else {
-            return false;
-        }
-    }
-    true
+    (1..=Memory::CELLS as u8).all(|c| cell_fits(m, c))
 }
 
 // The buffer of process p. "Unused: .. processes above M": their buffers are empty.
+#[tactic(auto, using(base::proofs::Choices::choices), unfolding(crate::specs::WellFormed::held_fits_of))]
 fn held_fits(m: Memory, p: usize, b: Buffer) -> bool
     ensures { result ≡ held_fits_of m p b }
 {
-    if b.well_formed(m.cells) {
-        if p < m.processes as usize {
-            return true;
-        }
-        return b.len == 0;
-    }
-    false
+    b.well_formed(m.cells) && (p < m.processes as usize || b.len == 0)
 }
 
+#[tactic(auto, using(base::proofs::Choices::choices), unfolding(crate::specs::WellFormed::buffers_fit_of))]
 fn buffers_fit(m: Memory) -> bool
     ensures { result ≡ buffers_fit_of m }
 {
-    let mut p: usize = 0;
-    while p < Memory::PROCESSES {
-        let b = m.buffers[p];
-        if held_fits(m, p, b) {
-            p += 1;
-        } else {
-            return false;
-        }
-    }
-    true
-}
-
-fn fits(m: Memory) -> bool
-    ensures { result ≡ fits_of m }
-{
-    if !counts_fit(m) {
-        return false;
-    }
-    if !cells::below(m.used, m.cells) {
-        return false;
-    }
-    // "a free cell's mark"
-    if !cells::is_empty(cells::minus(m.marks, m.used)) {
-        return false;
-    }
-    if (m.processes as u16) < m.lock {
-        return false;
-    }
-    if !cells_fit(m) {
-        return false;
-    }
-    buffers_fit(m)
+    m.buffers
+        .iter()
+        .enumerate()
+        .all(|(p, b)| held_fits(m, p, *b))
 }
 
 // The lengths of the arrays are those of their types, so nothing is left to test of them.
+#[tactic(auto, using(base::proofs::Choices::choices, base::proofs::Lists::carried), unfolding(crate::specs::WellFormed::memory_formed_of, crate::specs::WellFormed::sized_of, crate::specs::WellFormed::fits_of))]
 pub fn well_formed(m: Memory) -> bool
     ensures { result ≡ memory_formed_of m }
 {
-    fits(m)
+    counts_fit(m)
+        && cells::below(m.used, m.cells)
+        // "a free cell's mark"
+        && cells::is_empty(cells::minus(m.marks, m.used))
+        && m.lock <= m.processes as u16
+        && cells_fit(m)
+        && buffers_fit(m)
 }

@@ -10,7 +10,7 @@ use Rattle.base.proofs.Bits.{bit_same, bit_other}
 use Rattle.base.specs.Refusals.{as_taken}
 use Rattle.cells.specs.Sets.{no_cells, Member, remove_of}
 use Rattle.memory.specs.declared.Memory.{Memory}
-use Rattle.memory.specs.declared.Done.{Done}
+use Rattle.memory.specs.Answers.{Done}
 use Rattle.memory.specs.declared.asks.Ask.TheVariants as ask
 use Rattle.memory.specs.declared.asks.Change.{Change}
 use Rattle.memory.specs.Memories.{taken}

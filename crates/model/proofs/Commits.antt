@@ -29,8 +29,7 @@ use Rattle.memory.proofs.Refusals.{commit_no}
 use Rattle.memory.proofs.Effects.{is_taken}
 use Rattle.state.specs.declared.State.{State}
 use Rattle.state.specs.declared.Choice.{Choice}
-use Rattle.state.specs.declared.Answer.{Answer}
-use Rattle.state.specs.States.{mutators_of, process_of, with_memory, refused_of, taken_of}
+use Rattle.state.specs.States.{Answer, mutators_of, process_of, with_memory, refused_of, taken_of}
 use Rattle.state.specs.Acts.{going_on}
 use Rattle.state.specs.Choices.{is_blank}
 use Rattle.model.specs.Offers.{Bare}

@@ -27,8 +27,7 @@ use Rattle.buffers.specs.Buffers.{max_stores}
 use Rattle.memory.specs.Memories.{used_of}
 use Rattle.state.specs.declared.State.{State}
 use Rattle.state.specs.declared.Choice.{Choice}
-use Rattle.state.specs.declared.Answer.{Answer}
-use Rattle.state.specs.States.{refused_of}
+use Rattle.state.specs.States.{Answer, refused_of}
 use Rattle.model.specs.Offers.{AmongOffered, offer_of}
 use Rattle.model.specs.Deeds.{Deed, reads, sweeps, writes, fences, locks, unlocks, allocates, frees, apart, deed_of}
 use Rattle.model.specs.Reasons as reason

@@ -14,7 +14,7 @@ use borrow.Author.Tests.{eq-eqb, ne_eqb}
 use Rattle.base.proofs.Picking.{pick_no}
 use Rattle.memory.specs.declared.Memory.{Memory}
 use Rattle.memory.specs.declared.asks.Ask.TheVariants as ask
-use Rattle.memory.specs.declared.Done.{Done}
+use Rattle.memory.specs.Answers.{Done}
 use Rattle.memory.specs.Memories.{taken}
 use Rattle.memory.specs.Looks.{look_mark_of}
 use Rattle.memory.specs.Steps.{fence_of}

@@ -24,8 +24,7 @@ use Rattle.memory.specs.Asks as memory
 use Rattle.memory.specs.Asks.{looked_of, swept_sight, told_of}
 use Rattle.state.specs.declared.State.{State}
 use Rattle.state.specs.declared.Choice.{Choice}
-use Rattle.state.specs.declared.Answer.{Answer}
-use Rattle.state.specs.States.{with_memory, refused_of, taken_of}
+use Rattle.state.specs.States.{Answer, with_memory, refused_of, taken_of}
 use Rattle.state.specs.Acts.{setting_of, went_of}
 use Rattle.mutator.specs.Mutators.{flag_waits}
 use Rattle.model.specs.Deeds.{Deed, reads, sweeps, writes, fences, locks, unlocks, allocates, frees, apart, deed_of}

@@ -16,7 +16,7 @@ use lib.ListN.{length}
 use Rattle.base.specs.Pick.{pick}
 use Rattle.base.proofs.Picking.{pick_ind, pick_no}
 use Rattle.cells.specs.Sets.{remove_of}
-use Rattle.memory.specs.declared.asks.Sight.{Sight}
+use Rattle.memory.specs.Answers.{Sight}
 use Rattle.memory.specs.Memories.{max_processes}
 use Rattle.memory.specs.Asks.{Told}
 use Rattle.state.specs.declared.Handshake.{Handshake}

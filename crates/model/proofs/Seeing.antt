@@ -9,10 +9,7 @@ use lib.Dec.{eqb}
 use Rattle.base.proofs.Picking.{pick_ind}
 use Rattle.base.specs.Refusals.{as_taken, by_free}
 use Rattle.memory.specs.declared.Memory.{Memory}
-use Rattle.memory.specs.declared.SeenBit.{SeenBit}
-use Rattle.memory.specs.declared.SeenValue.{SeenValue}
-use Rattle.memory.specs.declared.SeenPhase.{SeenPhase}
-use Rattle.memory.specs.declared.Swept.{Swept}
+use Rattle.memory.specs.Answers.{SeenBit, SeenValue, SeenPhase, Swept}
 use Rattle.memory.specs.Memories.{taken}
 use Rattle.memory.specs.Looks.{swept_of, look_mark_of, look_swept_of}
 use Rattle.memory.specs.Steps.{fence_of}

@@ -21,7 +21,7 @@ use Rattle.memory.specs.declared.Memory.{Memory}
 use Rattle.memory.specs.declared.asks.Ask.{Ask}
 use Rattle.memory.specs.declared.asks.Ask.TheVariants as ask
 use Rattle.memory.specs.declared.asks.Change.TheVariants as change
-use Rattle.memory.specs.declared.Done.{Done}
+use Rattle.memory.specs.Answers.{Done}
 use Rattle.memory.specs.Memories.{taken}
 use Rattle.memory.specs.Looks.{look_field_of}
 use Rattle.memory.specs.Steps.{fence_of, allocate_of}

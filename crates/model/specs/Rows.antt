@@ -9,10 +9,7 @@ use Rattle.buffers.specs.declared.Phase.{Phase}
 use Rattle.buffers.specs.declared.Phase.TheVariants as phase
 use Rattle.buffers.specs.declared.Store.TheVariants as store
 use Rattle.memory.specs.declared.Memory.{Memory}
-use Rattle.memory.specs.declared.SeenBit.{SeenBit}
-use Rattle.memory.specs.declared.SeenValue.{SeenValue}
-use Rattle.memory.specs.declared.SeenPhase.{SeenPhase}
-use Rattle.memory.specs.declared.Swept.{Swept}
+use Rattle.memory.specs.Answers.{SeenBit, SeenValue, SeenPhase, Swept}
 use Rattle.memory.specs.Memories.{taken}
 use Rattle.memory.specs.Looks.{look_mark_of, look_field_of, look_sense_of, look_phase_of, look_swept_of}
 use Rattle.memory.specs.Steps.{write_of, commit_of, fence_of, lock_of, unlock_of, allocate_of, free_of}

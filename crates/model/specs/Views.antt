@@ -5,8 +5,7 @@ use Rattle.std.specs.Prelude.{ℕ, ◌<◌}
 use Rattle.base.specs.Refusals.{by_no_kind}
 use Rattle.state.specs.declared.State.{State}
 use Rattle.state.specs.declared.Choice.{Choice}
-use Rattle.state.specs.declared.Answer.{Answer}
-use Rattle.state.specs.States.{refused_of, taken_of}
+use Rattle.state.specs.States.{Answer, refused_of, taken_of}
 use Rattle.model.specs.Reasons.{Reason}
 
 -- "Checks run in number order": n is the first reason of those from 4 that holds

@@ -4,20 +4,25 @@ use Rattle.std.specs.Prelude.{Bool, ℕ, eqb, ltb}
 use Rattle.base.specs.Pick.{pick}
 use Rattle.base.specs.Refusals.{as_taken, by_not_offered, by_flag_down}
 use Rattle.memory.specs.declared.asks.Ask.{Ask}
-use Rattle.memory.specs.declared.asks.Sight.{Sight}
+use Rattle.memory.specs.Answers.{Sight}
 use Rattle.memory.specs.Asks.{Told}
 use Rattle.state.specs.declared.Process.{Process}
 use Rattle.state.specs.declared.State.{State}
 use Rattle.state.specs.declared.Choice.{Choice}
-use Rattle.state.specs.declared.Answer.{Answer}
+use Rattle.state.specs.States.{Answer, with_memory, refused_of, taken_of}
 use Rattle.state.specs.declared.acts.Going.{Going}
 use Rattle.state.specs.declared.acts.Setting.{Setting}
 use Rattle.state.specs.Codes.{row1_round}
-use Rattle.state.specs.States.{with_memory, refused_of, taken_of}
 use Rattle.state.specs.Acts.{going_on, went_of}
+use Rattle.own.specs.declared.Program.{Program}
+use Rattle.own.specs.declared.Program.TheVariants as program
 use Rattle.marking.specs.Marks.{is_site_of, mark_offers, mark_ask, mark_go}
 use Rattle.mutator.specs.Mutators.{mutator_offers, flag_waits, mutator_ask, mutator_go}
 use Rattle.collector.specs.Collectors.{collector_offers, collector_ask, collector_go}
+
+-- ---- the program of a place
+unfoldable pub program_at_of : ℕ → Program
+program_at_of k = pick (is_site_of k) program.Mark (pick (ltb k row1_round) program.Mutator program.Collector)
 
 -- ---- checks 4 and 6, among n cells: the number of the refusal, or 0
 unfoldable pub own_offers : ℕ → Choice → Process → Bool

@@ -1,5 +1,4 @@
 -- The closure that the passes compute. Assumes nothing.
---     counted_more                   one number more of a loop that counts from 1
 --     Met                            reach as far as a set can tell: through the cells 1 to N, to cells that a set
 --                                    can hold
 --     follow_grows, follow_met, follow_has, pass_grows, pass_met, pass_has       what a step and a pass keep, add and
@@ -11,7 +10,6 @@ use mathlib.Core.Path.{◌≡◌, refl, sym, ap, ◌∙◌}
 use mathlib.Core.Bool.{true, false}
 use mathlib.Core.Logic.{◌⊎◌, inl, inr, ◌↔◌}
 use Prim.Native.Nat.{ℕ, zero, suc, ◌+◌, ◌^◌, ◌≤◌, ◌<◌}
-use native.Mathlib.Numerals.{add-one}
 use native.Mathlib.Omega.{arith}
 use native.Mathlib.Decide.{dec_lt, ℕ_discrete}
 use borrow.Author.Tests.{eqb-true, eqb-false}
@@ -26,10 +24,6 @@ use Rattle.cells.proofs.Counts.{count_max, count_minus, count_zero}
 use Rattle.memory.specs.declared.Memory.{Memory}
 use Rattle.memory.specs.Memories.{used_of, field_of}
 use Rattle.reach.specs.Reach.{Names, first, second, counted, follow_of, pass_of, passes_of, most_passes, reached_of}
-
--- ---- counting from 1
-pub counted_more : {A : Type 0} {r t : A} (f : A → ℕ → A) (a : A) (i : ℕ) → r ≡ counted i f a → t ≡ f r (i + 1) → t ≡ counted (i + 1) f a
-counted_more f a i e q = q ∙ rw (e, add-one)
 
 -- ---- one number added: what is new is that number, and fits
 in_add_fits : (s x y : ℕ) → Member (add_of s x) y → (Member s y) ⊎ ((x ≡ y) × (y ≤ max_set))

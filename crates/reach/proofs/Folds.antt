@@ -1,7 +1,8 @@
 -- The members of a set that a loop over a list adds to. Assumes nothing.
---     through_from     a member was there before, or an element adds it
---     through_keeps    what was there stays
---     through_has      what an element adds is there; past the end nothing is added
+--     fold_from     a member was there before, or an element adds it
+--     fold_keeps    what was there stays
+--     fold_has      what an element adds is there; past the end nothing is added
+--     folds            the set, for a loop over an array or its front
 --     Joined, joined_from, joined_keeps, joined_has, joined_none       what a set and one number, both added, add
 use mathlib.Core.Path.{◌≡◌}
 use mathlib.Core.List.{List, [], ◌∷◌}
@@ -9,7 +10,9 @@ use mathlib.Core.Logic.{◌⊎◌, inl, inr, ⊎_elim}
 use Prim.Native.Nat.{ℕ, zero, suc, ◌≤◌, ◌<◌}
 use native.Mathlib.Omega.{arith}
 use lib.ListN.{get_or}
-use Rattle.base.specs.Pick.{through}
+use Rattle.std.specs.Prelude.{fold}
+use Rattle.std.proofs.iter.runs.Made.{chains}
+use Rattle.base.proofs.Lists.{take_clamped}
 use Rattle.cells.specs.Sets.{max_set, no_cells, Member, union_of, add_of}
 use Rattle.cells.proofs.Bools.{not_both}
 use Rattle.cells.proofs.Members.{member_empty, member_pos, in_add, add_same, add_keeps, in_union, union_left, union_right}
@@ -17,9 +20,9 @@ use Rattle.cells.proofs.Members.{member_empty, member_pos, in_add, add_same, add
 -- f adds to a set what its element adds: `Adds b c`, the element b adds the number c; `none`, the element past the
 -- end, adds nothing
 module _ {B : Type 0} (f : ℕ → B → ℕ) (Adds : B → ℕ → Type 0) (none : B) (c : ℕ) where
-  pub through_from : ((a : ℕ) (b : B) → Member (f a b) c → (Member a c) ⊎ (Adds b c)) → (a : ℕ) (l : List B) → Member (through f a l) c → (Member a c) ⊎ ((i : ℕ) × Adds (get_or l i none) c)
-  through_from k a [] p = inl p
-  through_from k a (b ∷ bs) p = later (through_from k (f a b) bs p)
+  pub fold_from : ((a : ℕ) (b : B) → Member (f a b) c → (Member a c) ⊎ (Adds b c)) → (a : ℕ) (l : List B) → Member (fold f a l) c → (Member a c) ⊎ ((i : ℕ) × Adds (get_or l i none) c)
+  fold_from k a [] p = inl p
+  fold_from k a (b ∷ bs) p = later (fold_from k (f a b) bs p)
     where
       now : (Member a c) ⊎ (Adds b c) → (Member a c) ⊎ ((i : ℕ) × Adds (get_or (b ∷ bs) i none) c)
       now (inl q) = inl q
@@ -30,14 +33,14 @@ module _ {B : Type 0} (f : ℕ → B → ℕ) (Adds : B → ℕ → Type 0) (non
       later (inr q) = inr (suc q.0, q.1)
 
   module _ (keeps : (a : ℕ) (b : B) → Member a c → Member (f a b) c) where
-    pub through_keeps : (a : ℕ) (l : List B) → Member a c → Member (through f a l) c
-    through_keeps a [] p = p
-    through_keeps a (b ∷ bs) p = through_keeps (f a b) bs (keeps a b p)
+    pub fold_keeps : (a : ℕ) (l : List B) → Member a c → Member (fold f a l) c
+    fold_keeps a [] p = p
+    fold_keeps a (b ∷ bs) p = fold_keeps (f a b) bs (keeps a b p)
 
-    pub through_has : ((a : ℕ) (b : B) → Adds b c → Member (f a b) c) → (Adds none c → ⊥) → (a : ℕ) (l : List B) (i : ℕ) → Adds (get_or l i none) c → Member (through f a l) c
-    through_has k empty a [] i p = absurd (empty p)
-    through_has k empty a (b ∷ bs) zero p = through_keeps (f a b) bs (k a b p)
-    through_has k empty a (b ∷ bs) (suc i) p = through_has k empty (f a b) bs i p
+    pub fold_has : ((a : ℕ) (b : B) → Adds b c → Member (f a b) c) → (Adds none c → ⊥) → (a : ℕ) (l : List B) (i : ℕ) → Adds (get_or l i none) c → Member (fold f a l) c
+    fold_has k empty a [] i p = absurd (empty p)
+    fold_has k empty a (b ∷ bs) zero p = fold_keeps (f a b) bs (k a b p)
+    fold_has k empty a (b ∷ bs) (suc i) p = fold_has k empty (f a b) bs i p
 
 -- ---- a set and one number: null adds nothing
 pub data Joined (t x c : ℕ) : Type 0 where
@@ -62,3 +65,5 @@ module _ (c : ℕ) where
   pub joined_none : Joined no_cells 0 c → ⊥
   joined_none (inside p) = not_both p (member_empty c)
   joined_none (alone e p) = omega arith
+
+pub ruleset folds = (chains, take_clamped)

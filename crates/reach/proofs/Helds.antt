@@ -24,7 +24,7 @@ use Rattle.state.specs.declared.State.{State}
 use Rattle.state.specs.States.{no_process, process_of}
 use Rattle.reach.specs.Held.{store_at, Held, root, honorary, target, value, with_process_held, with_store_of, with_entry_of, with_buffer_of, of_processes_of, of_buffers_of, held_of}
 use Rattle.reach.specs.Statements.{HeldExactly, Within}
-use Rattle.reach.proofs.Folds.{through_from, through_keeps, through_has, Joined, inside, alone, joined_from, joined_keeps, joined_has, joined_none}
+use Rattle.reach.proofs.Folds.{fold_from, fold_keeps, fold_has, Joined, inside, alone, joined_from, joined_keeps, joined_has, joined_none}
 
 -- what a process, a store and a buffer add
 abbrev OfProcess : Process → ℕ → Type 0
@@ -80,16 +80,16 @@ module _ (c : ℕ) where
   entry_from h e p = store_from h e.store p
 
   buffer_from : (h : ℕ) (b : Buffer) → Member (with_buffer_of h b) c → (Member h c) ⊎ (OfBuffer b c)
-  buffer_from h b p = through_from with_entry_of OfEntry no_entry c entry_from h (pending_of b) p
+  buffer_from h b p = fold_from with_entry_of OfEntry no_entry c entry_from h (pending_of b) p
 
   entry_keeps : (h : ℕ) (e : Entry) → Member h c → Member (with_entry_of h e) c
   entry_keeps h e p = store_keeps h e.store p
 
   buffer_keeps : (h : ℕ) (b : Buffer) → Member h c → Member (with_buffer_of h b) c
-  buffer_keeps h b p = through_keeps with_entry_of OfEntry no_entry c entry_keeps h (pending_of b) p
+  buffer_keeps h b p = fold_keeps with_entry_of OfEntry no_entry c entry_keeps h (pending_of b) p
 
   buffer_has : c ≤ max_set → (h : ℕ) (b : Buffer) → OfBuffer b c → Member (with_buffer_of h b) c
-  buffer_has l h b p = through_has with_entry_of OfEntry no_entry c entry_keeps (λ a e q. store_has l a e.store q) no_store_lem h (pending_of b) p.0 p.1
+  buffer_has l h b p = fold_has with_entry_of OfEntry no_entry c entry_keeps (λ a e q. store_has l a e.store q) no_store_lem h (pending_of b) p.0 p.1
 
   no_buffer_lem : OfBuffer no_buffer c → ⊥
   no_buffer_lem p = no_store_lem p.1
@@ -97,7 +97,7 @@ module _ (c : ℕ) where
 -- ---- the whole state
 pub held_from : (s : State) (c : ℕ) → Member (held_of s) c → Held s c
 unfolding held_of of_buffers_of of_processes_of
-held_from s c p = go (through_from with_buffer_of OfBuffer no_buffer c (buffer_from c) (of_processes_of s) s.memory.buffers p)
+held_from s c p = go (fold_from with_buffer_of OfBuffer no_buffer c (buffer_from c) (of_processes_of s) s.memory.buffers p)
   where
     own_of : (p : ℕ) → OfProcess (process_of s p) c → Held s c
     own_of p (inside q) = root p q
@@ -112,7 +112,7 @@ held_from s c p = go (through_from with_buffer_of OfBuffer no_buffer c (buffer_f
     first (inr q) = own_of q.0 q.1
 
     go : (Member (of_processes_of s) c) ⊎ ((p : ℕ) × OfBuffer (get_or s.memory.buffers p no_buffer) c) → Held s c
-    go (inl q) = first (through_from with_process_held OfProcess no_process c (λ h q. joined_from c h q.roots q.old) no_cells s.procs q)
+    go (inl q) = first (fold_from with_process_held OfProcess no_process c (λ h q. joined_from c h q.roots q.old) no_cells s.procs q)
     go (inr q) = store_of q.0 q.1.0 q.1.1
 
 pub held_has : (s : State) (c : ℕ) → c ≤ max_set → Held s c → Member (held_of s) c
@@ -121,11 +121,11 @@ held_has s c l = go
   where
     by_process : (p : ℕ) → OfProcess (process_of s p) c → Member (held_of s) c
     by_process p q =
-        through_keeps with_buffer_of OfBuffer no_buffer c (buffer_keeps c) (of_processes_of s) s.memory.buffers
-        (through_has with_process_held OfProcess no_process c (λ h q. joined_keeps c h q.roots q.old) (λ h q. joined_has c l h q.roots q.old) (joined_none c) no_cells s.procs p q)
+        fold_keeps with_buffer_of OfBuffer no_buffer c (buffer_keeps c) (of_processes_of s) s.memory.buffers
+        (fold_has with_process_held OfProcess no_process c (λ h q. joined_keeps c h q.roots q.old) (λ h q. joined_has c l h q.roots q.old) (joined_none c) no_cells s.procs p q)
 
     by_store : (p i : ℕ) → OfStore (store_at s p i) c → Member (held_of s) c
-    by_store p i q = through_has with_buffer_of OfBuffer no_buffer c (buffer_keeps c) (buffer_has c l) (no_buffer_lem c) (of_processes_of s) s.memory.buffers p (i, q)
+    by_store p i q = fold_has with_buffer_of OfBuffer no_buffer c (buffer_keeps c) (buffer_has c l) (no_buffer_lem c) (of_processes_of s) s.memory.buffers p (i, q)
 
     go : Held s c → Member (held_of s) c
     go (root p q) = by_process p (inside q)

@@ -1,6 +1,5 @@
 -- "Held: roots, honorary roots, targets and values of pending field stores". Null is not held. Assumes nothing.
-use Rattle.std.specs.Prelude.{◌≡◌, ℕ, ◌<◌, get_or}
-use Rattle.base.specs.Pick.{through}
+use Rattle.std.specs.Prelude.{◌≡◌, ℕ, ◌<◌, get_or, fold}
 use Rattle.cells.specs.Sets.{no_cells, Member, union_of, add_of}
 use Rattle.buffers.specs.declared.Store.{Store}
 use Rattle.buffers.specs.declared.Store.TheVariants as store
@@ -43,14 +42,14 @@ abbrev pub with_entry_of : ℕ → Entry → ℕ
 with_entry_of h e = with_store_of h e.store
 
 abbrev pub with_buffer_of : ℕ → Buffer → ℕ
-with_buffer_of h b = through with_entry_of h (pending_of b)
+with_buffer_of h b = fold with_entry_of h (pending_of b)
 
 -- all processes, then all buffers
 unfoldable pub of_processes_of : State → ℕ
-of_processes_of s = through with_process_held no_cells s.procs
+of_processes_of s = fold with_process_held no_cells s.procs
 
 unfoldable pub of_buffers_of : ℕ → Memory → ℕ
-of_buffers_of h m = through with_buffer_of h m.buffers
+of_buffers_of h m = fold with_buffer_of h m.buffers
 
 unfoldable pub held_of : State → ℕ
 held_of s = of_buffers_of (of_processes_of s) s.memory

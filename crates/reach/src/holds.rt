@@ -18,68 +18,43 @@ fn with_process(held: u64, q: Process) -> u64
 fn with_entry(held: u64, e: Entry) -> u64
     ensures { result ≡ with_entry_of held e }
 {
-    let s = e.store;
-    match s {
-        Store::Mark { cell: _, bit: _ } => held,
-        Store::Field {
-            cell,
-            field: _,
-            value,
-        } => {
+    match e.store {
+        Store::Field { cell, value, .. } => {
             let target = cells::add(held, cell);
             cells::add(target, value)
         }
-        Store::Sense(_) => held,
-        Store::AllocSense(_) => held,
-        Store::Phase(_) => held,
+        _ => held,
     }
 }
 
+#[tactic(auto, using(crate::proofs::Folds::folds))]
 fn with_buffer(start: u64, b: Buffer) -> u64
     ensures { result ≡ with_buffer_of start b }
 {
-    let n = b.pending();
-    let mut held = start;
-    let mut i = 0;
-    while i < n {
-        let e = b.entries[i];
-        held = with_entry(held, e);
-        i += 1;
-    }
-    held
+    b.entries[..b.pending()]
+        .iter()
+        .copied()
+        .fold(start, with_entry)
 }
 
+#[tactic(auto, using(crate::proofs::Folds::folds), unfolding(crate::specs::Held::of_processes_of))]
 fn of_processes(s: State) -> u64
     ensures { result ≡ of_processes_of s }
 {
-    let mut held = cells::empty();
-    let mut i = 0;
-    while i < Memory::PROCESSES {
-        let q = s.procs[i];
-        held = with_process(held, q);
-        i += 1;
-    }
-    held
+    s.procs.iter().copied().fold(cells::empty(), with_process)
 }
 
+#[tactic(auto, using(crate::proofs::Folds::folds), unfolding(crate::specs::Held::of_buffers_of))]
 fn of_buffers(start: u64, m: Memory) -> u64
     ensures { result ≡ of_buffers_of start m }
 {
-    let mut held = start;
-    let mut i = 0;
-    while i < Memory::PROCESSES {
-        let b = m.buffers[i];
-        held = with_buffer(held, b);
-        i += 1;
-    }
-    held
+    m.buffers.iter().copied().fold(start, with_buffer)
 }
 
 // The cells held in the whole state.
+#[tactic(auto, unfolding(crate::specs::Held::held_of))]
 pub fn held(s: State) -> u64
     ensures { result ≡ held_of s }
 {
-    let own = of_processes(s);
-    let m = s.memory;
-    of_buffers(own, m)
+    of_buffers(of_processes(s), s.memory)
 }

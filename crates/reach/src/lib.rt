@@ -11,6 +11,7 @@ ghost use Rattle.reach.specs.Reach.{reached_of};
 use memory::Memory;
 
 // The numbers that both sets hold.
+#[tactic(auto, unfolding(cells::specs::Sets::inter_of))]
 fn both(s: u64, t: u64) -> u64
     ensures { result ≡ inter_of s t }
 {
@@ -35,6 +36,7 @@ fn follow(m: Memory, seen: u64, c: u8) -> u64
 // The cells reached from those of start. Pending is what is seen and not yet gone through; its lowest cell is taken,
 // and the cells that its fields name are seen, free ones too.
 // All that is seen is reached, and what a cell gone through names is seen; each turn leaves one cell fewer.
+// What is still to go through grows on the way, so there is nothing to iterate over.
 pub fn reached(m: Memory, start: u64) -> u64
     ensures { result ≡ reached_of m start }
 {

@@ -1,6 +1,7 @@
 // "A round is: fence; set type ..; raise each flag once, x naming the mutator; poll, x naming one still awaited,
 // until none is": written once, for the collector's six rounds.
 // What each step offers, what it asks of memory, and how it goes on. c is the choice, q the collector.
+// Matches over places, stages and operations are document 01's form (`state::codes`).
 #![tactic(auto)]
 
 ghost use Rattle.std.specs.Prelude.{◌≡◌};
@@ -20,28 +21,27 @@ pub struct Round {
 }
 
 // Check 4: the mutators still to be raised, or still awaited; else the step uses no argument.
+#[tactic(auto, unfolding(crate::specs::Rounds::round_offers))]
 pub fn offers(c: Choice, q: Process) -> bool
     ensures { result ≡ round_offers c q }
 {
-    let stage = q.stage;
-    match stage {
-        Stage::NONE => false,
-        RoundStage::FENCE => c.blank(),
-        RoundStage::TYPE => c.blank(),
-        RoundStage::RAISE => c.names(q.left),
-        RoundStage::POLL => c.names(q.left),
-        RoundStage::BEYOND..=255 => false,
+    match q.stage {
+        RoundStage::FENCE | RoundStage::TYPE => c.blank(),
+        RoundStage::RAISE | RoundStage::POLL => c.names(q.left),
+        Stage::NONE | RoundStage::BEYOND..=255 => false,
     }
 }
 
 // "fence"
+#[tactic(auto, unfolding(crate::specs::Rounds::round_ask))]
 pub fn ask(q: Process) -> Ask
     ensures { result ≡ round_ask q }
 {
     if q.stage == RoundStage::FENCE {
-        return Ask::Fence;
+        Ask::Fence
+    } else {
+        Ask::Nothing
     }
-    Ask::Nothing
 }
 
 // "set type": every flag is then to be raised.
@@ -54,19 +54,20 @@ fn typing(all: u64, mut q: Process) -> Process
 }
 
 // The mutators still to be raised; none left: all are awaited.
+#[tactic(auto, unfolding(crate::specs::Rounds::raising))]
 fn raising(all: u64, left: u64, mut q: Process) -> Process
     ensures { result ≡ raising all left q }
 {
+    q.left = left;
     if left == 0 {
         q.stage = RoundStage::POLL;
         q.left = all;
-        return q;
     }
-    q.left = left;
     q
 }
 
 // The mutators still awaited; none left: the round is over.
+#[tactic(auto, unfolding(crate::specs::Rounds::polling))]
 fn polling(left: u64, mut q: Process, round: Round) -> Process
     ensures { result ≡ polling left q round }
 {
@@ -74,19 +75,20 @@ fn polling(left: u64, mut q: Process, round: Round) -> Process
     if left == 0 {
         q.place = round.place;
         q.stage = round.stage;
-        return q;
     }
     q
 }
 
 // "A poll that finds the flag up is taken and changes nothing."
+#[tactic(auto, unfolding(crate::specs::Rounds::poll_go))]
 fn poll(up: bool, c: Choice, q: Process, round: Round) -> Process
     ensures { result ≡ poll_go up c q round }
 {
     if up {
-        return q;
+        q
+    } else {
+        polling(cells::remove(q.left, c.x), q, round)
     }
-    polling(cells::remove(q.left, c.x), q, round)
 }
 
 fn fenced(mut q: Process) -> Process
@@ -96,21 +98,19 @@ fn fenced(mut q: Process) -> Process
     q
 }
 
+#[tactic(auto, unfolding(crate::specs::Rounds::round_go))]
 pub fn go(c: Choice, set: Setting, q: Process, round: Round) -> Going
     ensures { result ≡ round_go c set q round }
 {
     let all = cells::full(set.mutators);
-    let kind = round.kind;
-    let stage = q.stage;
-    match stage {
-        Stage::NONE => Going::on(q),
+    match q.stage {
         RoundStage::FENCE => Going::on(fenced(q)),
-        RoundStage::TYPE => Going::with(Act::Types(kind), typing(all, q)),
+        RoundStage::TYPE => Going::with(Act::Types(round.kind), typing(all, q)),
         RoundStage::RAISE => Going::with(
             Act::Raises(c.x),
             raising(all, cells::remove(q.left, c.x), q),
         ),
         RoundStage::POLL => Going::on(poll(set.up, c, q, round)),
-        RoundStage::BEYOND..=255 => Going::on(q),
+        Stage::NONE | RoundStage::BEYOND..=255 => Going::on(q),
     }
 }

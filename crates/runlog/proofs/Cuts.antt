@@ -21,7 +21,7 @@ use Rattle.header.specs.Header.{max_log, size_of}
 use Rattle.header.specs.Admitted.{Admitted}
 use Rattle.header.specs.Statements.{SameOpening}
 use Rattle.header.proofs.Same.{header_decides, cut_inside}
-use Rattle.runlog.specs.declared.run.Run.{Run}
+use Rattle.runlog.specs.Answers.{Run}
 use Rattle.runlog.specs.Records.{record_size, check_place, choice_at, record_at}
 use Rattle.runlog.specs.Runs.{start_of, onward_of, closed_of, whole_of, left_of, played_of, outcome_told_of}
 use Rattle.runlog.specs.Rule.{place_of, record_of, Whole, Taken, none, more, Stops, ended, short, wrong, refused, ReadAt, LastRead, never, last, RunTo, runs}

@@ -15,7 +15,7 @@ use Rattle.verdict.specs.Judged.{is_malformed, judged_of}
 use Rattle.verdict.proofs.Verdicts.{judged_holds, verdicts_exactly}
 use Rattle.verdict.proofs.Formed as verdict
 use Rattle.header.specs.Admitted.{Admitted}
-use Rattle.runlog.specs.declared.Outcome.{Outcome}
+use Rattle.runlog.specs.Answers.{Outcome}
 use Rattle.runlog.specs.Runs.{outcome_told_of, judge_of}
 use Rattle.runlog.specs.Rule.{record_of, Taken, Stops, ended, short, wrong, refused, Judges, shut, runs}
 use Rattle.runlog.specs.Statements.{ran_of, NeverMalformed, StopNotAdmitted, VerdictNotAdmitted, VerdictOf, RanJudged}

@@ -19,19 +19,17 @@ use Rattle.buffers.specs.declared.sources.Source.{Source}
 use Rattle.buffers.specs.Sources.{source_number, read_after}
 use Rattle.state.specs.declared.State.{State}
 use Rattle.state.specs.declared.Choice.{Choice}
-use Rattle.state.specs.declared.Answer.{Answer}
+use Rattle.state.specs.States.{Answer, taken_of}
 use Rattle.state.specs.Openings.{opening_of}
-use Rattle.state.specs.States.{taken_of}
 use Rattle.formed.specs.Fits.{WellFormed}
 use Rattle.engine.specs.Steps.{step_of}
 use Rattle.engine.specs.Readings.{read_by}
-use Rattle.verdict.specs.declared.Finding.{Finding}
+use Rattle.verdict.specs.Judged.{Finding}
 use Rattle.verdict.proofs.Formed.{formed_judged}
 use Rattle.header.specs.Header.{size_of, heap_of, admitted_of}
 use Rattle.header.specs.Admitted.{Admitted}
 use Rattle.header.proofs.Agrees.{admitted_clauses, clauses_admitted}
-use Rattle.runlog.specs.declared.Outcome.{Outcome}
-use Rattle.runlog.specs.declared.run.Run.{Run}
+use Rattle.runlog.specs.Answers.{Outcome, Run}
 use Rattle.runlog.specs.Records.{check_sum_of}
 use Rattle.runlog.specs.Runs.{ended_of, stopped_of, after_answer, turned_of, onward_of, closed_of, whole_of, left_of, played_of, outcome_told_of, not_opened, judge_if, judge_of}
 use Rattle.runlog.specs.Rule.{record_of, Whole, RightCheck, Taken, none, more, Stops, ended, short, wrong, refused, LastRead, RunTo, Judges, shut, runs}

@@ -26,7 +26,7 @@ use Rattle.header.specs.Header.{heap_of}
 use Rattle.header.specs.Admitted.{Admitted}
 use Rattle.header.proofs.Heaps.{heap_sound}
 use Rattle.runlog.specs.declared.record.Record.{Record}
-use Rattle.runlog.specs.declared.run.Run.{Run}
+use Rattle.runlog.specs.Answers.{Run}
 use Rattle.runlog.specs.Records.{right_check_of}
 use Rattle.runlog.specs.Runs.{turned_of, turn_of, closed_of, whole_of, left_of, played_of}
 use Rattle.runlog.specs.Rule.{record_of}

@@ -1,6 +1,5 @@
 pub mod Turns
 pub mod Formed
-pub mod Judges
 pub mod LastReads
 pub mod Exacts
 pub mod Cuts

@@ -4,8 +4,8 @@
 --     answered_taken, -refused       and by what the step answers
 --     run_more                       one record more
 --     run_stays                      a run that has stopped stays as it is, however many records follow
---     wrong_halts, refused_halts     the loop leaves with such a run
---     taken_goes                     or goes on
+--     wrong_turn, refused_turn, taken_turn     a record's turn, by the check and by what the step answers
+--     halted, goes                   the loop leaves with such a run, or goes on
 use mathlib.Core.Path.{◌≡◌, refl, sym, ap, ◌∙◌}
 use mathlib.Core.Bool.{Bool}
 use mathlib.Core.List.{List}
@@ -18,12 +18,11 @@ use Rattle.base.specs.Refusals.{wrong_check}
 use Rattle.buffers.specs.declared.sources.Source.{Source}
 use Rattle.buffers.specs.Sources.{read_after}
 use Rattle.state.specs.declared.State.{State}
-use Rattle.state.specs.declared.Answer.{Answer}
-use Rattle.state.specs.States.{taken_of}
+use Rattle.state.specs.States.{Answer, taken_of, refused_of}
 use Rattle.engine.specs.Steps.{inner_of}
 use Rattle.engine.specs.Readings.{read_by}
 use Rattle.runlog.specs.declared.record.Record.{Record}
-use Rattle.runlog.specs.declared.run.Run.{Run}
+use Rattle.runlog.specs.Answers.{Run}
 use Rattle.runlog.specs.Records.{record_size, record_at, check_sum_of}
 use Rattle.runlog.specs.Runs.{ended_of, stopped_of, took_of, after_answer, turned_of, turn_of, onward_if, onward_of, run_through}
 use Rattle.runlog.specs.Rule.{RightCheck}
@@ -49,6 +48,25 @@ answered_taken run v a e = rw (eq-eqb a.no 0 e) refl
 pub answered_refused : (run : Run) (v : Source) (a : Answer) → (a.no ≡ 0 → ⊥) → after_answer run v a ≡ stopped_of a.no run
 answered_refused run v a n = rw (ne_eqb a.no 0 n) refl
 
+-- a record's turn from the state s, whatever the count and the last read
+module _ (s : State) (r : Record) (k : ℕ) (v : Source) where
+  pub wrong_turn : (RightCheck r → ⊥) → ended_of s k wrong_check v ≡ turn_of (ended_of s k 0 v) r
+  unfolding turn_of
+  wrong_turn h = sym (turn_wrong (ended_of s k 0 v) r (inner_of s r.choice) h)
+
+  module _ (right : RightCheck r) where
+    pub refused_turn : (n : ℕ) → (n ≡ 0 → ⊥) → inner_of s r.choice ≡ refused_of n s → ended_of s k n v ≡ turn_of (ended_of s k 0 v) r
+    unfolding turn_of
+    refused_turn n z e =
+        let run : Run = ended_of s k 0 v in
+        sym (turn_right run r (inner_of s r.choice) right ∙ rw e (answered_refused run (read_by s r.choice) (refused_of n s) z))
+
+    pub taken_turn : (t : State) (w : Source) → w ≡ read_by s r.choice → inner_of s r.choice ≡ taken_of t → ended_of t (k + 1) 0 (read_after v w) ≡ turn_of (ended_of s k 0 v) r
+    unfolding turn_of
+    taken_turn t w d e =
+        let run : Run = ended_of s k 0 v in
+        ap (λ (x : Source). ended_of t (k + 1) 0 (read_after v x)) d ∙ sym (turn_right run r (inner_of s r.choice) right ∙ rw e (answered_taken run (read_by s r.choice) (taken_of t) refl))
+
 module _ (log : List ℕ) (at : ℕ) (s : State) where
   pub run_more : (run q : Run) (k : ℕ) → run ≡ run_through log at s k → run.stop ≡ 0 → q ≡ turn_of run (record_at log (at + record_size * k)) → q ≡ run_through log at s (k + 1)
   run_more run q k e z t =
@@ -70,32 +88,12 @@ module _ (log : List ℕ) (at : ℕ) (s : State) where
   Ongoing t k v = ended_of t k 0 v ≡ run_through log at s k
 
   module _ (t : State) (k n : ℕ) (v : Source) (r : Record) (o : Ongoing t k v) (e : r ≡ record_at log (at + record_size * k)) (l : k < n) where
-    -- the record is turned down, and those after it change nothing
-    halted : (m : ℕ) → (m ≡ 0 → ⊥) → turn_of (ended_of t k 0 v) r ≡ ended_of t k m v → ended_of t k m v ≡ run_through log at s n
-    halted m z h =
+    -- the record stops the run in the state u, and those after it change nothing
+    pub halted : (u : State) (m : ℕ) → (m ≡ 0 → ⊥) → ended_of u k m v ≡ turn_of (ended_of t k 0 v) r → ended_of u k m v ≡ run_through log at s n
+    halted u m z h =
         let run : Run = ended_of t k 0 v in
-        let q : Run = ended_of t k m v in
-        run_stays q n (k + 1) (run_more run q k o refl (sym h ∙ ap (turn_of run) e)) z (omega arith)
+        let q : Run = ended_of u k m v in
+        run_stays q n (k + 1) (run_more run q k o refl (h ∙ ap (turn_of run) e)) z (omega arith)
 
-    pub wrong_halts : (RightCheck r → ⊥) → ended_of t k wrong_check v ≡ run_through log at s n
-    unfolding turn_of
-    wrong_halts h = halted wrong_check (λ z. omega arith) (turn_wrong (ended_of t k 0 v) r (inner_of t r.choice) h)
-
-    module _ (right : RightCheck r) where
-      abbrev read : Source
-      read = read_by t r.choice
-
-      pub refused_halts : (m : ℕ) → (inner_of t r.choice).no ≡ m → (m ≡ 0 → ⊥) → ended_of t k m v ≡ run_through log at s n
-      unfolding turn_of
-      refused_halts m f z =
-          let run : Run = ended_of t k 0 v in
-          let a = inner_of t r.choice in
-          halted m z (turn_right run r a right ∙ answered_refused run read a (λ y. z (sym f ∙ y)) ∙ ap (λ (i : ℕ). stopped_of i run) f)
-
-      pub taken_goes : (u : State) (w : Source) → inner_of t r.choice ≡ taken_of u → w ≡ read_after v read → Ongoing u (k + 1) w
-      unfolding turn_of
-      taken_goes u w f d =
-          let run : Run = ended_of t k 0 v in
-          let a = inner_of t r.choice in
-          let h = turn_right run r a right ∙ answered_taken run read a (ap (λ (x : Answer). x.no) f) ∙ ap (λ (x : Answer). took_of run read x.state) f ∙ ap (ended_of u (k + 1) 0) (sym d) in
-          run_more run (ended_of u (k + 1) 0 w) k o refl (sym h ∙ ap (turn_of run) e)
+    pub goes : (u : State) (w : Source) → ended_of u (k + 1) 0 w ≡ turn_of (ended_of t k 0 v) r → Ongoing u (k + 1) w
+    goes u w h = run_more (ended_of t k 0 v) (ended_of u (k + 1) 0 w) k o refl (h ∙ ap (turn_of (ended_of t k 0 v)) e)

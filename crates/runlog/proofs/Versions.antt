@@ -15,7 +15,7 @@ use Rattle.header.specs.Bytes.{byte_at, pair_at}
 use Rattle.header.specs.Header.{version1, version2, size_of, heap_of}
 use Rattle.header.specs.Written.{bytes_of, SaidIn}
 use Rattle.header.proofs.Written.{written_size, written_admitted, written_said, said_in_two}
-use Rattle.runlog.specs.declared.run.Run.{Run}
+use Rattle.runlog.specs.Answers.{Run}
 use Rattle.runlog.specs.Records.{record_size, check_place, choice_at, record_at}
 use Rattle.runlog.specs.Runs.{run_through, onward_of, closed_of, played_of, outcome_told_of}
 use Rattle.runlog.specs.Statements.{after_of, ran_of, SameRecords, RecordsDecide, VersionsAlike}

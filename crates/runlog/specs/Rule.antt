@@ -15,7 +15,7 @@ use Rattle.verdict.specs.Judged.{is_malformed}
 use Rattle.verdict.specs.Findings.{finding_of}
 use Rattle.header.specs.Header.{size_of, heap_of}
 use Rattle.header.specs.Admitted.{Admitted}
-use Rattle.runlog.specs.declared.Outcome.{Outcome}
+use Rattle.runlog.specs.Answers.{Outcome}
 use Rattle.runlog.specs.declared.record.Record.{Record}
 use Rattle.runlog.specs.Records.{record_size, record_at, check_sum_of}
 

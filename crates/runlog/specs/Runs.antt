@@ -1,21 +1,23 @@
 -- The run of a log: its records taken one by one, each by the step of the state before it, and the four numbers.
 -- Assumes nothing.
-use Rattle.std.specs.Prelude.{Bool, true, false, List, ℕ, zero, suc, ◌+◌, ◌-◌, ◌*◌, ◌/◌, ◌%◌, eqb, length}
+use Rattle.std.specs.Prelude.{Bool, true, false, List, ℕ, zero, suc, ◌+◌, ◌-◌, ◌*◌, ◌/◌, ◌%◌, eqb, length, Result, Ok, Err, ◌≡◌}
 use Rattle.base.specs.Pick.{pick}
-use Rattle.base.specs.Refusals.{not_admitted, wrong_check, few_left}
+use Rattle.base.specs.declared.Stop.{Stop}
+use Rattle.base.specs.Refusals.{stop_number, not_admitted, wrong_check, few_left}
 use Rattle.buffers.specs.declared.sources.Source.{Source}
 use Rattle.buffers.specs.declared.sources.Source.TheVariants as source
 use Rattle.buffers.specs.Sources.{nothing_read, source_number, read_after}
 use Rattle.state.specs.declared.State.{State}
-use Rattle.state.specs.declared.Answer.{Answer}
+use Rattle.state.specs.States.{Answer}
 use Rattle.state.specs.Openings.{opening_of}
 use Rattle.engine.specs.Steps.{inner_of}
 use Rattle.engine.specs.Readings.{read_by}
-use Rattle.verdict.specs.Judged.{is_malformed, judged_of}
+use Rattle.verdict.specs.Judged.{Finding, is_malformed, found, judged_of, told}
+use Rattle.runlog.specs.declared as code
+use Rattle.runlog.specs.declared.run as run
 use Rattle.header.specs.Header.{size_of, admitted_of, heap_of}
-use Rattle.runlog.specs.declared.Outcome.{Outcome}
+use Rattle.runlog.specs.Answers.{Outcome, Run}
 use Rattle.runlog.specs.declared.record.Record.{Record}
-use Rattle.runlog.specs.declared.run.Run.{Run}
 use Rattle.runlog.specs.Records.{record_size, record_at, right_check_of}
 
 -- a run that has come to the state s, with k records taken and the stop n; the last value read came from v
@@ -85,3 +87,31 @@ judge_if false log = not_opened
 
 unfoldable pub judge_of : List ℕ → Outcome
 judge_of log = judge_if (admitted_of log) log
+
+-- "the verdict is that of the state then", with the cell or mutator that goes with it
+abbrev pub found_if : Bool → List ℕ → Finding
+found_if true log = judged_of (played_of log (opening_of (heap_of log))).state
+found_if false log = found is_malformed 0
+
+unfoldable pub found_of : List ℕ → Finding
+found_of log = found_if (admitted_of log) log
+
+-- "The last such answer of a run": where the last value read came from
+abbrev pub origin_if : Bool → List ℕ → Source
+origin_if true log = (played_of log (opening_of (heap_of log))).read
+origin_if false log = source.Nothing
+
+unfoldable pub origin_of : List ℕ → Source
+origin_of log = origin_if (admitted_of log) log
+
+-- ---- the code's answers, by these numbers
+abbrev pub run_as : run.Run.Run → Run
+run_as k = record { state = k.state; steps = k.steps; stop = stop_number k.stop; read = k.read }
+
+abbrev pub outcome_as : code.Outcome.Outcome → Outcome
+outcome_as o = record { steps = o.steps; stop = stop_number o.stop; verdict = (told o.verdict).verdict; read = source_number o.read }
+
+-- a record's turn leaves the state t: whatever the count and the last read, the run from s goes on there, or stops
+abbrev pub Turned : State → Record → State → Result Source Stop → Type 0
+Turned s r t (Ok v) = (k : ℕ) (last : Source) → ended_of t (k + 1) 0 (read_after last v) ≡ turn_of (ended_of s k 0 last) r
+Turned s r t (Err n) = (stop_number n ≡ 0 → ⊥) × ((k : ℕ) (last : Source) → ended_of t k (stop_number n) last ≡ turn_of (ended_of s k 0 last) r)

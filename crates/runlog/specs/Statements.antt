@@ -16,8 +16,7 @@ use Rattle.header.specs.Bytes.{byte_at}
 use Rattle.header.specs.Header.{max_log, version1, version2, size_of, heap_of}
 use Rattle.header.specs.Admitted.{Admitted}
 use Rattle.header.specs.Written.{bytes_of, SaidIn}
-use Rattle.runlog.specs.declared.Outcome.{Outcome}
-use Rattle.runlog.specs.declared.run.Run.{Run}
+use Rattle.runlog.specs.Answers.{Outcome, Run}
 use Rattle.runlog.specs.Records.{record_size}
 use Rattle.runlog.specs.Runs.{turned_of, run_through, closed_of, whole_of, left_of, played_of, outcome_told_of, not_opened, judge_of}
 use Rattle.runlog.specs.Rule.{place_of, record_of, Taken, Judges}

@@ -1,55 +1,57 @@
-// The judge of a log: its header opened, its records run, and the four numbers.
+// The judge of a log: its header opened, its records run, and what it comes to.
 #![tactic(auto)]
 
 mod record;
 mod run;
 
 ghost use Rattle.std.specs.Prelude.{◌≡◌};
-ghost use Rattle.runlog.specs.Runs.{outcome_told_of, judge_of};
+ghost use Rattle.runlog.specs.Runs.{run_as, outcome_as, outcome_told_of, judge_of, found_of, origin_of};
+ghost use Rattle.verdict.specs.Judged.{told, judged_of};
 
+use base::Stop;
 use buffers::sources::Source;
 use state::State;
-use verdict::Finding;
+use verdict::Verdict;
 
 // "The count is of the records taken before the stop; the verdict is that of the state then". "The last such answer of a
 // run becomes a fourth number": where the last value read came from.
-#[derive(Clone, Copy)]
+#[derive(Clone, Copy, PartialEq, Eq)]
 pub struct Outcome {
     pub steps: u32,
-    pub stop: u8,
-    pub verdict: u8,
-    pub read: u8,
+    pub stop: Stop,
+    pub verdict: Verdict,
+    pub read: Source,
 }
 
-// The four numbers of a run.
+// What a run comes to.
+#[tactic(auto, unfolding(crate::specs::Runs::outcome_told_of))]
 fn outcome_of(run: run::Run) -> Outcome
-    ensures { result ≡ outcome_told_of run }
+    ensures numbers { outcome_as result ≡ outcome_told_of (run_as run) }
+    ensures found { told result.verdict ≡ judged_of run.state }
+    ensures origin { result.read ≡ run.read }
 {
-    let s = run.state;
-    let f = verdict::judged(s);
-    let last = run.read;
     Outcome {
         steps: run.steps,
         stop: run.stop,
-        verdict: f.verdict,
-        read: last.number(),
+        verdict: verdict::judged(run.state),
+        read: run.read,
     }
 }
 
-// The four numbers of a log.
+// What a log comes to.
+#[tactic(auto, using(header::proofs::Opens::long_enough, header::proofs::Opens::not_long), unfolding(crate::specs::Runs::judge_of, crate::specs::Runs::found_of, crate::specs::Runs::origin_of, header::specs::Header::open_of))]
 pub fn judge(log: &[u8]) -> Outcome
-    ensures { result ≡ judge_of log.now }
+    ensures numbers { outcome_as result ≡ judge_of log.now }
+    ensures found { told result.verdict ≡ found_of log.now }
+    ensures origin { result.read ≡ origin_of log.now }
 {
-    let opened = header::open(log);
-    if opened.no != 0 {
-        return Outcome {
+    match header::open(log) {
+        Some(heap) => outcome_of(run::played(log, State::opening(heap))),
+        None => Outcome {
             steps: 0,
-            stop: opened.no,
-            verdict: Finding::MALFORMED,
-            read: Source::NOTHING,
-        };
+            stop: Stop::NotAdmitted,
+            verdict: Verdict::Malformed,
+            read: Source::Nothing,
+        },
     }
-    let heap = opened.heap;
-    let s = State::opening(heap);
-    outcome_of(run::played(log, s))
 }

@@ -24,9 +24,8 @@ use Rattle.memory.specs.Memories.{used_of}
 use Rattle.state.specs.declared.State.{State}
 use Rattle.state.specs.declared.Choice.{Choice}
 use Rattle.state.specs.declared.Process.{Process}
-use Rattle.state.specs.declared.Answer.{Answer}
+use Rattle.state.specs.States.{Answer, mutators_of, process_of, refused_of}
 use Rattle.state.specs.Codes.{top, store_mark_old, store_mark_y, store_write, noop_fence, roots_fence, roots_mark, work_fence, row2_read, row2_write, row4_write, row5_phase, row5_alloc, row7_first, row7_mark, row7_next, row9_write, row10_look, row10_free, row11_write, look_stage, sense_stage, phase_stage, lock_stage, again_stage, write_stage, unlock_stage, fence_stage}
-use Rattle.state.specs.States.{mutators_of, process_of, refused_of}
 use Rattle.formed.proofs.Gives.{mutator_within, collector_within}
 use Rattle.model.specs.Offers as offer
 use Rattle.model.specs.Offers.{mark_place, round_place, Operation, offer_of}

@@ -19,8 +19,7 @@ use Rattle.engine.specs.Steps.{step_of}
 use Rattle.engine.proofs.Theorems.{exact}
 use Rattle.reach.specs.Reach.{Reach}
 use Rattle.reach.specs.Held.{Held}
-use Rattle.verdict.specs.declared.Finding.{Finding}
-use Rattle.verdict.specs.Judged.{is_sound, is_malformed}
+use Rattle.verdict.specs.Judged.{Finding, is_sound, is_malformed}
 use Rattle.header.specs.Header.{heap_of}
 use Rattle.header.specs.Admitted.{Admitted}
 use Rattle.runlog.specs.Runs.{judge_of}

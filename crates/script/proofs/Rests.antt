@@ -1,35 +1,42 @@
--- The loop that looks for the end of a line: after i turns the line goes on by i and by what the rest of the bytes
--- says. Assumes nothing.
---     Going                 what the loop keeps
---     rest_more             one byte more, which is no end of a line
---     rest_found, rest_end  an end of a line; the end of the bytes
-use Prim.Native.Nat.{ℕ, ◌+◌, ◌≤◌, ◌<◌}
-use native.Mathlib.Omega.{arith}
-use native.Mathlib.Numerals.{add-one}
-use mathlib.Core.List.{List}
+-- How far a line goes on, as std says it: the place of the first end of a line, else the length. Assumes nothing.
+--     rest_is
+use mathlib.Core.Bool.{Bool, true, false, cond}
+use mathlib.Core.List.{List, [], ◌∷◌}
 use mathlib.Core.Path.{◌≡◌, refl}
-use lib.ListN.{length, drop, get_or, drop_of_length-le}
-use lib.Seq.{drop-cons}
-use borrow.Author.Tests.{eq-eqb, ne_eqb}
+use Prim.Native.Nat.{ℕ, ◌+◌, ◌≤◌}
+use native.Mathlib.Omega.{arith}
+use lib.Dec.{eqb}
+use lib.ListN.{length}
+use Rattle.std.proofs.lemmas.Bool.Decides.{nat_tests}
+use Rattle.std.proofs.lemmas.List.Recursion.{is_position_or_len}
+use Rattle.std.specs.List.{position, position_or_len}
+use Rattle.std.specs.Option.{unwrap_or}
+use Rattle.std.specs.Prelude.{nat_lt, Some, None}
+use Rattle.base.specs.Pick.{pick}
 use Rattle.script.specs.Script.{line_end, rest_of}
 
-abbrev pub Going : List ℕ → ℕ → Type 0
-Going s i = rest_of s ≡ i + rest_of (drop i s)
+abbrev pub ends : ℕ → Bool
+ends b = eqb b line_end
 
-pub rest_more : (s : List ℕ) (i : ℕ) → Going s i → i < length s → (get_or s i 0 ≡ line_end → ⊥) → Going s (i + 1)
+place : (s : List ℕ) → rest_of s ≡ position_or_len ends s
 unfolding rest_of
-rest_more s i g h n =
-    let e : rest_of (drop i s) ≡ 1 + rest_of (drop (i + 1) s) = rw (drop-cons s i 0 h, ne_eqb (get_or s i 0) line_end n, add-one) refl in
-    omega (arith, g, e)
+place = is_position_or_len rest_of ends refl (λ b bs. chosen (ends b) (1 + rest_of bs))
+  where
+    chosen : (t : Bool) (n : ℕ) → pick t 0 n ≡ cond t 0 n
+    chosen true n = refl
+    chosen false n = refl
 
-pub rest_found : (s : List ℕ) (i : ℕ) → Going s i → i < length s → get_or s i 0 ≡ line_end → i ≡ rest_of s
+within : (s : List ℕ) → rest_of s ≤ length s
 unfolding rest_of
-rest_found s i g h n =
-    let e : rest_of (drop i s) ≡ 0 = rw (drop-cons s i 0 h, eq-eqb (get_or s i 0) line_end n) refl in
-    omega (arith, g, e)
+within [] = omega arith
+within (b ∷ bs) = go (ends b) (within bs)
+  where
+    go : (t : Bool) → rest_of bs ≤ length bs → pick t 0 (1 + rest_of bs) ≤ length (b ∷ bs)
+    go true e = omega arith
+    go false e = omega arith
 
-pub rest_end : (s : List ℕ) (i : ℕ) → Going s i → length s ≤ i → i ≡ rest_of s
-unfolding rest_of
-rest_end s i g h =
-    let e : rest_of (drop i s) ≡ 0 = rw (drop_of_length-le s {i = i} h) refl in
-    omega (arith, g, e)
+found : (n m : ℕ) → n ≤ m → unwrap_or (cond (nat_lt n m) (Some n) None) m ≡ n
+found n m h = grind (arith, nat_tests)
+
+pub rest_is : (s : List ℕ) → unwrap_or (position ends s) (length s) ≡ rest_of s
+rest_is s = let e = place s in rw (← e) (found (rest_of s) (length s) (within s))

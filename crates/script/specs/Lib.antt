@@ -1,1 +1,3 @@
+pub mod Grounds
+pub mod Pieces
 pub mod Script

@@ -1,6 +1,9 @@
 // What the programs that run cases read of their stored input: digits, how far a line goes on, and a change of the
-// ground.
+// ground; what they change of it (`grounds`); an input cut into pieces (`pieces`).
 #![tactic(auto)]
+
+pub mod grounds;
+pub mod pieces;
 
 ghost use Rattle.std.specs.Prelude.{◌≡◌};
 ghost use Rattle.script.specs.Script.{digit_at, rest_of, change_of, number_of};
@@ -19,6 +22,7 @@ pub struct Change {
 
 impl Change {
     // A change, behind its sign.
+    #[tactic(auto, unfolding(crate::specs::Script::change_of))]
     pub fn read(s: &[u8]) -> Change
         ensures { result ≡ change_of s.now }
     {
@@ -33,38 +37,31 @@ impl Change {
 }
 
 // A digit; a star is 255, and what is below the digits is 0.
+#[tactic(auto, unfolding(crate::specs::Script::digit_of))]
 pub fn digit(s: &[u8], i: usize) -> u8
     ensures { result ≡ digit_at s.now i }
 {
-    let b = byte(s, i);
-    if b == b'*' {
-        return 255;
+    match byte(s, i) {
+        b'*' => 255,
+        b => b.saturating_sub(b'0'),
     }
-    if b < b'0' { 0 } else { b - b'0' }
 }
 
-// Two digits as a number.
+// Two digits as a number; 0 where one of them is none.
+#[tactic(auto, unfolding(crate::specs::Script::number_of))]
 pub fn number(tens: u8, ones: u8) -> u8
     ensures { result ≡ number_of tens ones }
 {
-    if tens < 10 {
-        if ones < 10 {
-            return tens * 10 + ones;
-        }
+    if tens < 10 && ones < 10 {
+        tens * 10 + ones
+    } else {
+        0
     }
-    0
 }
 
 // How far the line goes on.
 pub fn rest(s: &[u8]) -> usize
     ensures { result ≡ rest_of s.now }
 {
-    let mut i = 0;
-    while i < s.len() {
-        if s[i] == b'\n' {
-            return i;
-        }
-        i += 1;
-    }
-    i
+    s.iter().position(|b| *b == b'\n').unwrap_or(s.len())
 }

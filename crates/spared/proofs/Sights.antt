@@ -20,10 +20,7 @@ use Rattle.buffers.specs.declared.Entry.{Entry}
 use Rattle.buffers.specs.Stores.{bit_of, value_of, phase_of, spot_of, kind_of}
 use Rattle.buffers.proofs.Hits.{hits_other}
 use Rattle.memory.specs.declared.Memory.{Memory}
-use Rattle.memory.specs.declared.SeenBit.{SeenBit}
-use Rattle.memory.specs.declared.SeenValue.{SeenValue}
-use Rattle.memory.specs.declared.SeenPhase.{SeenPhase}
-use Rattle.memory.specs.declared.Swept.{Swept}
+use Rattle.memory.specs.Answers.{SeenBit, SeenValue, SeenPhase, Swept}
 use Rattle.memory.specs.Memories.{used_of, mark_of, field_of, blocked_of, stands_of}
 use Rattle.memory.specs.Looks.{look_mark_of, look_field_of, look_phase_of, look_swept_of}
 use Rattle.memory.specs.Views.{pending_for, view_of}

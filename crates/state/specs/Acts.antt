@@ -1,8 +1,6 @@
 -- How a step goes on once memory has taken it: its process after it, and what it does to the system's part in the
 -- handshakes and to the mutators' parts. Assumes nothing.
-use Rattle.std.specs.Prelude.{Bool, true, false, List, ℕ, leb, ltb, get_or, set}
-use Rattle.base.specs.Pick.{pick}
-use Rattle.memory.specs.Memories.{max_mutators, max_processes}
+use Rattle.std.specs.Prelude.{true, false, List, ℕ, get_or, set}
 use Rattle.state.specs.declared.Handshake.{Handshake}
 use Rattle.state.specs.declared.RoundType.{RoundType}
 use Rattle.state.specs.declared.RoundType.TheVariants as round
@@ -56,13 +54,6 @@ flag_up_of q = shaking true q.part.in_step q.part.phase q
 unfoldable pub raised_of : List Process → ℕ → List Process
 raised_of l x = set l x (flag_up_of (get_or l x no_process))
 
--- an act that changes none leaves the list as it is
-abbrev pub shakes : Act → Bool
-shakes act.Nothing = false
-shakes (act.Lists w) = false
-shakes (act.Types k) = true
-shakes (act.Raises x) = true
-
 abbrev pub shaken_of : List Process → Act → List Process
 shaken_of l act.Nothing = l
 shaken_of l (act.Lists w) = l
@@ -77,11 +68,3 @@ went_of s p g =
 -- what a step may know besides its own process and what it saw
 abbrev pub setting_of : State → ℕ → Setting
 setting_of s x = record { cells = s.memory.cells; mutators = mutators_of s; system = s.system; up = (process_of s x).part.raised }
-
--- ---- a process read where it stands in a state's list: its seat, and 0 past the last
-unfoldable pub seat_of : ℕ → ℕ
-seat_of p = pick (leb max_processes p) 0 p
-
--- mutator x's flag is up, where q stands at its seat; past the last there is none
-unfoldable pub up_of : ℕ → Process → Bool
-up_of x q = pick (ltb max_mutators x) false q.part.raised

@@ -1,6 +1,7 @@
 -- The state read and changed. antt has no update of a record: here is one setter for each field or group of fields.
 -- Assumes nothing.
-use Rattle.std.specs.Prelude.{Bool, false, ℕ, ◌-◌, get_or, set}
+use Rattle.std.specs.Prelude.{Bool, false, ℕ, ◌-◌, get_or, set, Result, Ok, Err}
+use Rattle.base.specs.Refusals.{refusal_number}
 use Rattle.memory.specs.declared.Memory.{Memory}
 use Rattle.state.specs.declared.Handshake.{Handshake}
 use Rattle.state.specs.declared.Handshake.TheVariants as hand
@@ -10,7 +11,7 @@ use Rattle.state.specs.declared.Part.{Part}
 use Rattle.state.specs.declared.Process.{Process}
 use Rattle.state.specs.declared.System.{System}
 use Rattle.state.specs.declared.State.{State}
-use Rattle.state.specs.declared.Answer.{Answer}
+use Rattle.state.specs.declared.Refused.{Refused}
 
 -- "The handshake phases run Idle, IdleInit, InitMark, Mark, IdleMarkSweep, Idle."
 abbrev pub next_of : Handshake → Handshake
@@ -84,10 +85,20 @@ with_memory s m = record { memory = m; procs = s.procs; system = s.system }
 abbrev pub with_system : State → System → State
 with_system s h = record { memory = s.memory; procs = s.procs; system = h }
 
--- ---- answers: "A step refusal returns the number and the same state."
+-- ---- answers, with document 01's numbers: 0 and the next state, or the number of the refusal and the state as it came
+pub record Answer : Type 0 where
+  pub no : ℕ
+  pub state : State
+
+-- "A step refusal returns the number and the same state."
 abbrev pub refused_of : ℕ → State → Answer
 refused_of n s = record { no = n; state = s }
 
 -- taken: t is the state after the step
 abbrev pub taken_of : State → Answer
 taken_of t = record { no = 0; state = t }
+
+-- the code's answer
+abbrev pub answered : Result State Refused → Answer
+answered (Ok t) = taken_of t
+answered (Err e) = refused_of (refusal_number e.why) e.state

@@ -1,4 +1,5 @@
-// Places, stages and operations by their numbers.
+// Places, stages and operations by their numbers: associated constants, and a match over numbers where they are told
+// apart, are a form that document 01 wants to see ("Forms we want to see").
 
 // The places of the two programs. A number from BEYOND on is none.
 #[derive(Clone, Copy)]

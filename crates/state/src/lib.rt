@@ -1,4 +1,4 @@
-// The whole state: memory, processes and handshakes, by value; what a step reads of it and how it changes it.
+// The whole state: memory, processes and handshakes; what a step reads of it and how it changes it.
 #![tactic(auto)]
 
 use base::Refusal;
@@ -10,12 +10,13 @@ pub mod codes;
 pub mod opening;
 
 ghost use Rattle.std.specs.Prelude.{◌≡◌};
-ghost use Rattle.state.specs.States.{next_of, type_number, phase_number, no_process, process_of, with_process_of, refused_of, taken_of, mutators_among, mutators_of};
+ghost use Rattle.state.specs.States.{next_of, type_number, phase_number, no_process, process_of, with_process_of, mutators_of};
 ghost use Rattle.state.specs.Choices.{field_left_of, is_blank, is_naming, is_scanning, is_scanning_on, is_bare, is_of_x};
 
 // A handshake phase: "Idle, IdleInit, InitMark, Mark, IdleMarkSweep, Idle".
-#[derive(Clone, Copy)]
+#[derive(Clone, Copy, PartialEq, Eq, Default)]
 pub enum Handshake {
+    #[default]
     Idle,
     IdleInit,
     InitMark,
@@ -24,15 +25,15 @@ pub enum Handshake {
 }
 
 // A handshake's type: "no-op, roots, work".
-#[derive(Clone, Copy)]
+#[derive(Clone, Copy, PartialEq, Eq)]
 pub enum RoundType {
     Noop,
     Roots,
     Work,
 }
 
-// A mutator's part in the handshakes.
-#[derive(Clone, Copy)]
+// A mutator's part in the handshakes: a struct of its own, as the theorems of `claims` and `spared` name it.
+#[derive(Clone, Copy, PartialEq, Eq, Default)]
 pub struct Part {
     pub raised: bool,
     pub in_step: bool,
@@ -40,7 +41,7 @@ pub struct Part {
 }
 
 // A process: its place, its notes, its lists. What its place does not use is zero.
-#[derive(Clone, Copy)]
+#[derive(Clone, Copy, PartialEq, Eq, Default)]
 pub struct Process {
     pub place: u8,
     pub stage: u8,
@@ -64,14 +65,14 @@ pub struct Process {
 }
 
 // The system's part: type, handshake phase, work list.
-#[derive(Clone, Copy)]
+#[derive(Clone, Copy, PartialEq, Eq)]
 pub struct System {
     pub kind: RoundType,
     pub phase: Handshake,
     pub work: u64,
 }
 
-#[derive(Clone, Copy)]
+#[derive(Clone, Copy, PartialEq, Eq)]
 pub struct State {
     pub memory: Memory,
     pub procs: [Process; Memory::PROCESSES],
@@ -89,13 +90,14 @@ pub struct Choice {
     pub y: u8,
 }
 
-// 0 and the next state, or the number of the refusal and the state as it came.
+// A refusal: why, and the state as it came.
 #[derive(Clone, Copy)]
-pub struct Answer {
-    pub no: u8,
+pub struct Refused {
+    pub why: Refusal,
     pub state: State,
 }
 
+// Kinds by their numbers, as `codes` has the operations: a form that document 01 wants to see.
 impl Choice {
     pub const OWN: u8 = 0;
 
@@ -126,31 +128,23 @@ impl Handshake {
             Handshake::IdleMarkSweep => Handshake::Idle,
         }
     }
+}
 
-    // The phase's number in the order of document 01, from 0.
-    pub fn number(self) -> u8
-        ensures { result ≡ phase_number self }
-    {
-        match self {
-            Handshake::Idle => 0,
-            Handshake::IdleInit => 1,
-            Handshake::InitMark => 2,
-            Handshake::Mark => 3,
-            Handshake::IdleMarkSweep => 4,
-        }
+// The phase's number in the order of document 01, from 0.
+impl From<Handshake> for u8 {
+    ghost from_gives = { λ h n. n ≡ phase_number h };
+
+    fn from(phase: Handshake) -> u8 {
+        phase as u8
     }
 }
 
-impl RoundType {
-    // The type's number in the order of document 01, from 0.
-    pub fn number(self) -> u8
-        ensures { result ≡ type_number self }
-    {
-        match self {
-            RoundType::Noop => 0,
-            RoundType::Roots => 1,
-            RoundType::Work => 2,
-        }
+// The type's number in the order of document 01, from 0.
+impl From<RoundType> for u8 {
+    ghost from_gives = { λ k n. n ≡ type_number k };
+
+    fn from(kind: RoundType) -> u8 {
+        kind as u8
     }
 }
 
@@ -159,171 +153,102 @@ impl Process {
     pub fn nobody() -> Process
         ensures { result ≡ no_process }
     {
-        let part = Part {
-            raised: false,
-            in_step: false,
-            phase: Handshake::Idle,
-        };
-        Process {
-            place: 0,
-            stage: 0,
-            x: 0,
-            f: 0,
-            y: 0,
-            old: 0,
-            left: 0,
-            cell: 0,
-            look: false,
-            sense: false,
-            grey: 0,
-            work: 0,
-            roots: 0,
-            part,
-        }
+        Process::default()
     }
 }
 
 impl Choice {
     // The place uses no argument.
+    #[tactic(auto, unfolding(crate::specs::Choices::is_blank))]
     pub fn blank(self) -> bool
         ensures { result ≡ is_blank self }
     {
-        if self.op == 0 {
-            return self.bare();
-        }
-        false
+        self.op == 0 && self.bare()
     }
 
     // The place uses x alone, and offers the numbers of the set.
+    #[tactic(auto, unfolding(crate::specs::Choices::is_naming))]
     pub fn names(self, set: u64) -> bool
         ensures { result ≡ is_naming self set }
     {
-        if self.op == 0 {
-            if self.of_x() {
-                return cells::member(set, self.x);
-            }
-        }
-        false
+        self.op == 0 && self.of_x() && cells::member(set, self.x)
     }
 
     // Row 7's first read: the place uses x, one of the set, and f, any field.
+    #[tactic(auto, unfolding(crate::specs::Choices::is_scanning))]
     pub fn scans(self, set: u64) -> bool
         ensures { result ≡ is_scanning self set }
     {
-        if self.op != 0 {
-            return false;
-        }
-        if self.y != 0 {
-            return false;
-        }
-        if Spot::FIELDS <= self.f {
-            return false;
-        }
-        cells::member(set, self.x)
+        self.op == 0 && self.y == 0 && self.f < Spot::FIELDS && cells::member(set, self.x)
     }
 
     // Row 7's next read: the place uses f alone, one of the fields left.
+    #[tactic(auto, unfolding(crate::specs::Choices::is_scanning_on))]
     pub fn scans_on(self, left: u64) -> bool
         ensures { result ≡ is_scanning_on self left }
     {
-        if self.op != 0 {
-            return false;
-        }
-        if self.x != 0 {
-            return false;
-        }
-        if self.y != 0 {
-            return false;
-        }
-        cells::member(left, self.field_left())
+        self.op == 0 && self.x == 0 && self.y == 0 && cells::member(left, self.field_left())
     }
 
     // The number of field f among the fields left; 0, which is in no set, where there is no such field.
     pub fn field_left(self) -> u8
         ensures { result ≡ field_left_of self.f }
     {
-        if self.f < Spot::FIELDS {
-            return self.f + 1;
-        }
-        0
+        if self.f < Spot::FIELDS { self.f + 1 } else { 0 }
     }
 
     // At top: the operation uses nothing more.
+    #[tactic(auto, unfolding(crate::specs::Choices::is_bare))]
     pub fn bare(self) -> bool
         ensures { result ≡ is_bare self }
     {
-        if self.x == 0 {
-            return self.of_x();
-        }
-        false
+        self.x == 0 && self.of_x()
     }
 
     // At top: the operation uses x at most.
+    #[tactic(auto, unfolding(crate::specs::Choices::is_of_x))]
     pub fn of_x(self) -> bool
         ensures { result ≡ is_of_x self }
     {
-        if self.f == 0 {
-            return self.y == 0;
-        }
-        false
+        self.f == 0 && self.y == 0
     }
-}
-
-// M: the processes without the collector.
-pub fn mutators(processes: u8) -> u8
-    ensures { result ≡ mutators_among processes }
-{
-    if processes == 0 {
-        return 0;
-    }
-    processes - 1
 }
 
 impl State {
-    pub fn mutators(self) -> u8
-        ensures { result ≡ mutators_of self }
+    // M: the processes without the collector.
+    pub fn mutators(&self) -> u8
+        ensures { result ≡ mutators_of self.now }
     {
-        let m = self.memory;
-        mutators(m.processes)
+        self.memory.processes.saturating_sub(1)
     }
 
     // The p-th process; a number past the last is nobody.
-    pub fn process(self, p: u8) -> Process
-        ensures { result ≡ process_of self p }
+    pub fn process(&self, p: u8) -> Process
+        ensures { result ≡ process_of self.now p }
     {
         let i = p as usize;
-        if Memory::PROCESSES <= i {
-            return Process::nobody();
+        if i < Memory::PROCESSES {
+            self.procs[i]
+        } else {
+            Process::nobody()
         }
-        self.procs[i]
+    }
+
+    // Process p becomes q, in place; past the last there is none.
+    fn put(&mut self, p: u8, q: Process)
+        ensures { self.new ≡ with_process_of self.old p q }
+    {
+        let i = p as usize;
+        if i < Memory::PROCESSES {
+            self.procs[i] = q;
+        }
     }
 
     // Process p becomes q.
     pub fn with_process(mut self, p: u8, q: Process) -> State
         ensures { result ≡ with_process_of self p q }
     {
-        let i = p as usize;
-        if Memory::PROCESSES <= i {
-            return self;
-        }
-        self.procs[i] = q;
+        self.put(p, q);
         self
-    }
-
-    // A refusal: the number, and the state as it came.
-    pub fn refused(self, n: u8) -> Answer
-        ensures { result ≡ refused_of n self }
-    {
-        Answer { no: n, state: self }
-    }
-
-    // Taken: this is the state after the step.
-    pub fn taken(self) -> Answer
-        ensures { result ≡ taken_of self }
-    {
-        Answer {
-            no: Refusal::TAKEN,
-            state: self,
-        }
     }
 }

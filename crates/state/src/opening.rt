@@ -8,7 +8,7 @@ use buffers::{Buffer, Phase};
 use memory::{Memory, PhaseWord};
 
 // An opening heap: N, the number of processes M + 1, the occupied cells, their fields, and each mutator's roots,
-// mutator 1 first.
+// mutator 1 first. The fields are two arrays, as the law `OpensCells` and the theorems on memory name them.
 #[derive(Clone, Copy)]
 pub struct Heap {
     pub cells: u8,
@@ -20,14 +20,13 @@ pub struct Heap {
 }
 
 // "fM, fA and all marks of occupied cells 1, phase Idle, .. buffers .. empty, lock free"
+#[tactic(auto, unfolding(crate::specs::Openings::open_memory))]
 fn memory(h: Heap) -> Memory
     ensures { result ≡ open_memory h }
 {
-    let b = Buffer::empty();
+    // the check follows no array from field to field: hence the variables
     let field0 = h.field0;
     let field1 = h.field1;
-    let phase = PhaseWord { phase: Phase::Idle };
-    let buffers = [b; Memory::PROCESSES];
     Memory {
         cells: h.cells,
         processes: h.processes,
@@ -37,48 +36,54 @@ fn memory(h: Heap) -> Memory
         field1,
         fm: true,
         fa: true,
-        phase,
+        phase: PhaseWord { phase: Phase::Idle },
         lock: 0,
-        buffers,
+        buffers: [Buffer::empty(); Memory::PROCESSES],
     }
 }
 
 // "collector at row 1"
+#[tactic(auto, unfolding(crate::specs::Openings::open_collector))]
 fn collector() -> Process
     ensures { result ≡ open_collector }
 {
-    let mut q = Process::nobody();
-    q.place = Place::ROW1_ROUND;
-    q.stage = RoundStage::FENCE;
-    q
+    Process {
+        place: Place::ROW1_ROUND,
+        stage: RoundStage::FENCE,
+        ..Process::nobody()
+    }
 }
 
 // "all in step, all handshake phases IdleMarkSweep, flags down, .. mutators at top"
+#[tactic(auto, unfolding(crate::specs::Openings::open_mutator))]
 fn mutator(roots: u64) -> Process
     ensures { result ≡ open_mutator roots }
 {
-    let mut q = Process::nobody();
-    let part = Part {
-        raised: false,
-        in_step: true,
-        phase: Handshake::IdleMarkSweep,
-    };
-    q.roots = roots;
-    q.part = part;
-    q
+    Process {
+        roots,
+        part: Part {
+            raised: false,
+            in_step: true,
+            phase: Handshake::IdleMarkSweep,
+        },
+        ..Process::nobody()
+    }
 }
 
 // Process p, above the collector, with the given roots; one above M is nobody.
+#[tactic(auto, unfolding(crate::specs::Openings::open_process))]
 fn process(h: Heap, p: u8, roots: u64) -> Process
     ensures { result ≡ open_process h p roots }
 {
     if p < h.processes {
-        return mutator(roots);
+        mutator(roots)
+    } else {
+        Process::nobody()
     }
-    Process::nobody()
 }
 
 // "type roots, .. all handshake phases IdleMarkSweep, .. lists empty"
+#[tactic(auto, unfolding(crate::specs::Openings::open_system))]
 fn system() -> System
     ensures { result ≡ open_system }
 {
@@ -90,21 +95,20 @@ fn system() -> System
 }
 
 impl State {
+    #[tactic(auto, unfolding(crate::specs::Openings::opening_of))]
     pub fn opening(h: Heap) -> State
         ensures { result ≡ opening_of h }
     {
-        let memory = memory(h);
-        let system = system();
-        let c = collector();
-        let m1 = process(h, 1, h.roots[0]);
-        let m2 = process(h, 2, h.roots[1]);
-        let m3 = process(h, 3, h.roots[2]);
-        let m4 = process(h, 4, h.roots[3]);
-        let procs = [c, m1, m2, m3, m4];
         State {
-            memory,
-            procs,
-            system,
+            memory: memory(h),
+            procs: [
+                collector(),
+                process(h, 1, h.roots[0]),
+                process(h, 2, h.roots[1]),
+                process(h, 3, h.roots[2]),
+                process(h, 4, h.roots[3]),
+            ],
+            system: system(),
         }
     }
 }

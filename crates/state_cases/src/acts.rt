@@ -14,47 +14,30 @@
 //     m p c f .   has a mark of c at place f      s p . f v   has fM at place f      w p c f v   has a field at place 0
 // In the hands:
 //     h . . . v   has the system's list as a number
-use super::{ground, places};
-use buffers::{Buffer, Entry, Store};
+// The matches over letters read the input: a table of functions would be no plainer.
+use super::places;
+use buffers::{Buffer, Store};
 use memory::Memory;
+use script::grounds::{bare, full, with_buffer, with_entry};
 use script::{Change, number};
 use state::{Handshake, Part, Process, State};
 
 // ---- processes
 
 fn part(letter: u8) -> Part {
-    if letter == b'H' {
-        return Part {
-            raised: false,
-            in_step: false,
-            phase: Handshake::Mark,
-        };
-    }
     Part {
         raised: letter == b'U',
         in_step: letter == b'I',
-        phase: Handshake::Idle,
+        phase: if letter == b'H' {
+            Handshake::Mark
+        } else {
+            Handshake::Idle
+        },
     }
-}
-
-fn shaking(mut q: Process, letter: u8) -> Process {
-    let part = part(letter);
-    q.part = part;
-    q
-}
-
-fn set(mut q: Process, letter: u8, s: u64) -> Process {
-    match letter {
-        b'L' => q.left = s,
-        b'W' => q.work = s,
-        b'R' => q.roots = s,
-        b'U' | b'I' | b'H' => return shaking(q, letter),
-        _ => {}
-    }
-    q
 }
 
 // A process with one note changed.
+// `in_process` of the engine cases has fewer letters, and other values behind some.
 pub(crate) fn noted(mut q: Process, letter: u8, v: u8) -> Process {
     match letter {
         b'X' => q.x = v,
@@ -65,7 +48,11 @@ pub(crate) fn noted(mut q: Process, letter: u8, v: u8) -> Process {
         b'G' => q.grey = v,
         b'S' => q.stage = v,
         b'N' => q.sense = v != 0,
-        _ => return set(q, letter, v as u64),
+        b'L' => q.left = u64::from(v),
+        b'W' => q.work = u64::from(v),
+        b'R' => q.roots = u64::from(v),
+        b'U' | b'I' | b'H' => q.part = part(letter),
+        _ => {}
     }
     q
 }
@@ -79,123 +66,53 @@ fn in_process(q: Process, a: Change) -> Process {
 
 // ---- memory
 
-// Cell c is at c - 1.
-fn slot(cell: u8) -> usize {
-    if cell == 0 {
-        return 0;
-    }
-    (cell - 1) as usize
-}
-
-fn marked(mut m: Memory, c: u8) -> Memory {
-    m.marks = cells::add(m.marks, c);
-    m
-}
-
-fn field(mut m: Memory, f: u8, i: usize, v: u8) -> Memory {
-    if i < Memory::CELLS {
-        if f == 0 {
-            m.field0[i] = v;
-        } else {
-            m.field1[i] = v;
-        }
-    }
-    m
-}
-
-fn in_cells(mut m: Memory, a: Change) -> Memory {
-    let letter = a.letter;
-    let n = number(a.c, a.f);
-    match letter {
-        b'l' => m.lock = a.v as u16,
-        b'u' => m.used = n as u64,
-        b'k' => return marked(m, n),
-        b'd' => return field(m, a.p, slot(n), a.v),
-        _ => {}
-    }
-    m
-}
-
-// ---- buffers
-
-fn at(mut b: Buffer, i: usize, store: Store) -> Buffer {
-    if i < Buffer::MAX {
-        b.entries[i] = Entry { store };
-    }
-    b
-}
-
-fn full(len: usize) -> Buffer {
-    let e = Entry {
-        store: Store::Sense(true),
-    };
-    let entries = [e; Buffer::MAX];
-    Buffer { entries, len }
-}
-
 fn mark(cell: u8) -> Store {
     Store::Mark { cell, bit: true }
 }
 
-fn write(cell: u8, field: u8, value: u8) -> Store {
-    Store::Field { cell, field, value }
+// A field of cell 0 is one of cell 1.
+fn field(cell: u8, field: u8, value: u8) -> Store {
+    Store::Field {
+        cell: cell.max(1),
+        field,
+        value,
+    }
 }
 
 fn in_buffer(mut b: Buffer, a: Change) -> Buffer {
-    let letter = a.letter;
-    let i = a.f as usize;
-    match letter {
-        b'b' => b.len = a.v as usize,
-        b'e' => return full(a.v as usize),
-        b'm' => return at(b, i, mark(a.c)),
-        b's' => return at(b, i, Store::Sense(a.v != 0)),
-        b'w' => return at(b, 0, write(a.c, a.f, a.v)),
+    let place = usize::from(a.f);
+    match a.letter {
+        b'b' => b.len = usize::from(a.v),
+        b'e' => return full(usize::from(a.v)),
+        b'm' => return with_entry(b, place, mark(a.c)),
+        b's' => return with_entry(b, place, Store::Sense(a.v != 0)),
+        b'w' => return with_entry(b, 0, a.field_store()),
         _ => {}
     }
     b
 }
 
-fn in_buffers(mut m: Memory, p: usize, a: Change) -> Memory {
-    if p < Memory::PROCESSES {
-        let b = m.buffers[p];
-        m.buffers[p] = in_buffer(b, a);
+fn in_memory(mut m: Memory, a: Change) -> Memory {
+    let n = number(a.c, a.f);
+    match a.letter {
+        b'l' => m.lock = u16::from(a.v),
+        b'u' => m.used = u64::from(n),
+        b'k' => return m.apply(mark(n)),
+        b'd' => return m.apply(field(n, a.p, a.v)),
+        _ => return with_buffer(m, a.p, |b| in_buffer(b, a)),
     }
     m
 }
 
-fn in_memory(m: Memory, a: Change) -> Memory {
-    let letter = a.letter;
-    match letter {
-        b'l' | b'u' | b'k' | b'd' => in_cells(m, a),
-        _ => in_buffers(m, a.p as usize, a),
-    }
-}
-
 // ---- the state
 
-fn listed(mut s: State, cells: u64) -> State {
-    let mut h = s.system;
-    h.work = cells;
-    s.system = h;
-    s
-}
-
-fn remembered(mut s: State, a: Change) -> State {
-    let m = s.memory;
-    s.memory = in_memory(m, a);
-    s
-}
-
 // A capital changes a process.
-pub(crate) fn changed(s: State, a: Change) -> State {
-    let letter = a.letter;
-    if letter <= b'Z' {
-        let q = s.process(a.p);
-        return s.with_process(a.p, in_process(q, a));
+pub(crate) fn changed(mut s: State, a: Change) -> State {
+    match a.letter {
+        0..=b'Z' => return s.with_process(a.p, in_process(s.process(a.p), a)),
+        b'n' => return State::opening(bare(number(a.c, a.f), a.v)),
+        b'h' => s.system.work = u64::from(a.v),
+        _ => s.memory = in_memory(s.memory, a),
     }
-    match letter {
-        b'n' => ground::bare(number(a.c, a.f), a.v),
-        b'h' => listed(s, a.v as u64),
-        _ => remembered(s, a),
-    }
+    s
 }

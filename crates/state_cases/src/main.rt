@@ -8,66 +8,44 @@ mod acts;
 mod ground;
 mod places;
 
-use header::bytes::byte;
+use script::pieces::Pieces;
 use script::{Change, rest};
 use state::State;
 use std::io::{self, Read};
 
-fn echo(rt: &impl Print, s: &[u8]) -> io::Result<()> {
-    if s.is_empty() {
-        return Ok(());
-    }
-    rt.write_all(&s[0..1])
-}
-
-// What stands first in the text: + a change; ? the answer, after which the ground is as before; a semicolon, behind
-// which is why the cases below it are there; else a byte of a line.
-fn turn(rt: &impl Print, s: State, text: &[u8]) -> io::Result<State> {
-    let b = byte(text, 0);
-    match b {
-        b'+' => Ok(acts::changed(s, Change::read(text))),
-        b'?' => {
-            print!(rt; " ")?;
-            ground::answer(rt, s)?;
-            Ok(ground::ground())
-        }
-        b';' => Ok(s),
-        _ => {
-            echo(rt, text)?;
-            Ok(s)
-        }
-    }
-}
-
-// How many bytes belong to the first.
+// How many bytes belong to what stands first in the text.
 fn more(text: &[u8]) -> usize {
-    let b = byte(text, 0);
-    match b {
-        b'+' => 5,
-        b';' => rest(text),
+    match text {
+        [b'+', ..] => 5,
+        [b';', ..] => rest(text),
         _ => 0,
     }
 }
 
-// All cases, each from the ground.
-fn table(rt: &impl Print, text: &[u8]) -> io::Result<()> {
-    let mut s = ground::ground();
-    let mut at = 0;
-    while at < text.len() {
-        let first = &text[at..];
-        s = turn(rt, s, first)?;
-        let k = more(first);
-        if text.len() - at <= k {
-            return Ok(());
+// A piece of the text: + a change; ? the answer, after which the ground is as before; a semicolon, behind which is why
+// the cases below it are there; else a byte of a line.
+fn turn(rt: &impl Print, s: State, piece: &[u8]) -> io::Result<State> {
+    match piece {
+        [b'+', ..] => return Ok(acts::changed(s, Change::read(piece))),
+        [b'?'] => {
+            print!(rt; " {}", ground::answer(s))?;
+            return Ok(ground::ground());
         }
-        at += k + 1;
+        [b';', ..] => {}
+        _ => rt.write_all(piece)?,
     }
-    Ok(())
+    Ok(s)
 }
 
+// All cases, each from the ground.
+// What the programs over pieces share is `Pieces`: a `for` of three lines is left.
 fn main(rt: HostRuntime) -> io::Result<()> {
     places::all(&rt)?;
     let mut text = Vec::new(rt.alloc());
     rt.reader().read_to_end(&mut text)?;
-    table(&rt, &text)
+    let mut s = ground::ground();
+    for piece in Pieces::of(&text, more) {
+        s = turn(&rt, s, piece)?;
+    }
+    Ok(())
 }

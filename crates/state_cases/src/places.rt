@@ -1,5 +1,6 @@
 // Every place and stage: a well-formed state there, and the same with each note out of range in turn.
 use super::{acts, ground};
+use script::grounds::marked;
 use state::Process;
 use state::codes::{MarkStage, Place, RoundStage};
 use std::io;
@@ -18,13 +19,22 @@ fn stages(place: u8) -> u8 {
     }
 }
 
-// The notes of the operation or the row, and what is left.
+// The notes of the operation or the row, and what is left: a store of 2 in field 1 of cell 1, over the old value 3; or
+// cell 1 in hand.
 fn noted(mut q: Process, place: u8) -> Process {
     match place {
-        Place::STORE_MARK_OLD | Place::STORE_MARK_Y | Place::STORE_WRITE => return stored(q),
+        Place::STORE_MARK_OLD | Place::STORE_MARK_Y | Place::STORE_WRITE => {
+            q.x = 1;
+            q.f = 1;
+            q.y = 2;
+            q.old = 3;
+        }
         Place::ROOTS_MARK => q.left = 5,
-        Place::ROW7_MARK | Place::ROW7_NEXT => return scanned(q, 2),
-        Place::ROW7_DROP => return scanned(q, 0),
+        Place::ROW7_MARK | Place::ROW7_NEXT => {
+            q.x = 1;
+            q.left = 2;
+        }
+        Place::ROW7_DROP => q.x = 1,
         Place::ROW10_LOOK => q.left = 7,
         Place::ROW10_FREE => {
             q.x = 1;
@@ -35,53 +45,15 @@ fn noted(mut q: Process, place: u8) -> Process {
     q
 }
 
-// A store of 2 in field 1 of cell 1, over the old value 3.
-fn stored(mut q: Process) -> Process {
-    q.x = 1;
-    q.f = 1;
-    q.y = 2;
-    q.old = 3;
-    q
-}
-
-// Cell 1 in hand, and its fields left.
-fn scanned(mut q: Process, left: u64) -> Process {
-    q.x = 1;
-    q.left = left;
-    q
-}
-
-// The cell that a mark notes for itself.
-fn own(place: u8) -> u8 {
+// A mark's notes: the cell that it notes for itself, which is not yet named at the first look at a root, and the cell
+// being marked.
+fn marking(q: Process, place: u8, stage: u8) -> Process {
     match place {
-        Place::ROOTS_MARK | Place::ROW7_MARK => 2,
-        _ => 0,
+        Place::STORE_MARK_OLD => marked(q, stage, 0, 3),
+        Place::STORE_MARK_Y => marked(q, stage, 0, 2),
+        Place::ROOTS_MARK if stage == MarkStage::LOOK => marked(q, stage, 0, 2),
+        _ => marked(q, stage, 2, 2),
     }
-}
-
-// The cell being marked.
-fn marked(place: u8) -> u8 {
-    if place == Place::STORE_MARK_OLD {
-        return 3;
-    }
-    2
-}
-
-// The notes of a mark at its stage: the first look from the second, the sense from the third, the cell being greyed
-// at the seventh.
-fn marking(mut q: Process, place: u8, stage: u8) -> Process {
-    q.cell = own(place);
-    if place == Place::ROOTS_MARK {
-        if stage == MarkStage::LOOK {
-            q.cell = 0;
-        }
-    }
-    q.look = MarkStage::SENSE <= stage;
-    q.sense = MarkStage::PHASE <= stage;
-    if stage == MarkStage::UNLOCK {
-        q.grey = marked(place);
-    }
-    q
 }
 
 // A process that fits, at the place and the stage.
@@ -90,96 +62,97 @@ pub(crate) fn fitting(place: u8, stage: u8) -> Process {
     q.place = place;
     q.stage = stage;
     q.work = 4;
-    let n = stages(place);
-    if n == 7 {
-        return marking(q, place, stage);
-    }
-    if n == 4 {
-        if RoundStage::RAISE <= stage {
-            q.left = 3;
-        }
+    match stages(place) {
+        7 => return marking(q, place, stage),
+        4 if RoundStage::RAISE <= stage => q.left = 3,
+        _ => {}
     }
     q
 }
 
-// The process whose program has the place: the collector, or mutator 1.
-fn whose(place: u8) -> u8 {
-    if Place::ROW1_ROUND <= place {
-        return 0;
-    }
-    1
+// A process in its seat.
+#[derive(Clone, Copy)]
+struct Seat {
+    p: u8,
+    q: Process,
 }
 
-fn column(rt: &impl Print, name: &str, p: u8, q: Process) -> io::Result<()> {
-    print!(rt; " {name} ")?;
-    ground::answer(rt, ground::seat(p, q))
-}
+// The letter of a note (see `acts`), its name, and a value out of range: a number above N = 3, a field above 1, a set
+// with the bit of cell 4.
+const BROKEN: [(u8, &str, u8); 9] = [
+    (b'X', "x", 4),
+    (b'F', "f", 2),
+    (b'Y', "y", 4),
+    (b'O', "old", 4),
+    (b'C', "cell", 4),
+    (b'G', "grey", 4),
+    (b'L', "left", 8),
+    (b'W', "work", 8),
+    (b'R', "roots", 8),
+];
 
-// The process with one note broken: the letter of the note (see `acts`), and its value.
-fn broken(rt: &impl Print, name: &str, p: u8, q: Process, letter: u8, v: u8) -> io::Result<()> {
-    column(rt, name, p, acts::noted(q, letter, v))
-}
-
-// Numbers above N = 3, a field above 1.
-fn numbers(rt: &impl Print, p: u8, q: Process) -> io::Result<()> {
-    broken(rt, "x", p, q, b'X', 4)?;
-    broken(rt, "f", p, q, b'F', 2)?;
-    broken(rt, "y", p, q, b'Y', 4)?;
-    broken(rt, "old", p, q, b'O', 4)?;
-    broken(rt, "cell", p, q, b'C', 4)?;
-    broken(rt, "grey", p, q, b'G', 4)
-}
-
-// Sets with the bit of cell 4.
-fn sets(rt: &impl Print, p: u8, q: Process) -> io::Result<()> {
-    broken(rt, "left", p, q, b'L', 8)?;
-    broken(rt, "work", p, q, b'W', 8)?;
-    broken(rt, "roots", p, q, b'R', 8)
-}
-
-// Bits where they are not in use.
-fn bits(rt: &impl Print, p: u8, q: Process) -> io::Result<()> {
-    if !q.look {
-        let mut look = q;
-        look.look = true;
-        column(rt, "look", p, look)?;
-    }
-    if 0 < p {
-        if !q.sense {
-            broken(rt, "sense", p, q, b'N', 1)?;
+impl Seat {
+    // Fitting the place and the stage, in the seat whose program has the place: the collector, or mutator 1.
+    fn at(place: u8, stage: u8) -> Seat {
+        Seat {
+            p: u8::from(place < Place::ROW1_ROUND),
+            q: fitting(place, stage),
         }
     }
-    Ok(())
+
+    // Whether the ground with the process in its seat is well formed.
+    fn answer(self) -> &'static str {
+        ground::answer(ground::ground().with_process(self.p, self.q))
+    }
+
+    fn with(self, letter: u8, v: u8) -> Seat {
+        Seat {
+            q: acts::noted(self.q, letter, v),
+            ..self
+        }
+    }
+
+    // The same with each note broken in turn.
+    fn notes(self, rt: &impl Print) -> io::Result<()> {
+        for (letter, name, v) in BROKEN {
+            print!(rt; " {name} {}", self.with(letter, v).answer())?;
+        }
+        Ok(())
+    }
+
+    // Bits where they are not in use.
+    fn bits(self, rt: &impl Print) -> io::Result<()> {
+        if !self.q.look {
+            let mut seat = self;
+            seat.q.look = true;
+            print!(rt; " look {}", seat.answer())?;
+        }
+        if 0 < self.p && !self.q.sense {
+            print!(rt; " sense {}", self.with(b'N', 1).answer())?;
+        }
+        Ok(())
+    }
 }
 
 fn at(rt: &impl Print, place: u8, stage: u8) -> io::Result<()> {
-    let p = whose(place);
-    let q = fitting(place, stage);
-    print!(rt; "{place}/{stage} ")?;
-    ground::answer(rt, ground::seat(p, q))?;
-    print!(rt; ", broken:")?;
-    numbers(rt, p, q)?;
-    sets(rt, p, q)?;
-    bits(rt, p, q)?;
+    let seat = Seat::at(place, stage);
+    print!(rt; "{place}/{stage} {}, broken:", seat.answer())?;
+    seat.notes(rt)?;
+    seat.bits(rt)?;
     println!(rt)
 }
 
-fn each(rt: &impl Print, place: u8) -> io::Result<()> {
-    let n = stages(place);
-    if n == 0 {
-        return at(rt, place, 0);
-    }
-    for stage in 1..8 {
-        if stage <= n {
-            at(rt, place, stage)?;
-        }
-    }
-    Ok(())
-}
-
+// At each place and stage.
 pub(crate) fn all(rt: &impl Print) -> io::Result<()> {
     for place in 0..Place::BEYOND {
-        each(rt, place)?;
+        match stages(place) {
+            0 => at(rt, place, 0)?,
+            n => {
+                for stage in 1..=n {
+                    at(rt, place, stage)?;
+                }
+            }
+        }
     }
     Ok(())
 }

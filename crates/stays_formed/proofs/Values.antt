@@ -19,7 +19,7 @@ use Rattle.buffers.specs.declared.Entry.{Entry}
 use Rattle.buffers.specs.Stores.{value_of}
 use Rattle.buffers.specs.Fits.{IsCell}
 use Rattle.memory.specs.declared.Memory.{Memory}
-use Rattle.memory.specs.declared.SeenValue.{SeenValue}
+use Rattle.memory.specs.Answers.{SeenValue}
 use Rattle.memory.specs.Memories.{taken, field_of}
 use Rattle.memory.specs.Looks.{look_field_of}
 use Rattle.memory.specs.Steps.{write_of, commit_of, lock_of, unlock_of, allocate_of, free_of}

@@ -7,111 +7,73 @@
 
 mod names;
 
-use header::bytes::byte;
-use memory::Memory;
-use script::{digit, rest};
-use state::opening::Heap;
-use state::{Choice, Process, State};
+use names::{At, Numbers, Step};
+use script::grounds::bare;
+use script::pieces::{Pieces, choice};
+use script::rest;
+use state::{Refused, State};
 use std::io::{self, Read};
 
 // Four cells: 1 has cell 2 in its field 0 and is the root of both mutators; 3 is free; 4 names 1 and nothing leads to
 // it.
-fn heap() -> Heap {
-    let mut field0 = [0u8; Memory::CELLS];
-    let field1 = [0u8; Memory::CELLS];
-    field0[0] = 2;
-    field0[3] = 1;
-    let roots = [1, 1, 0, 0];
-    Heap {
-        cells: 4,
-        processes: 3,
-        used: 11,
-        field0,
-        field1,
-        roots,
-    }
+fn opening() -> State {
+    let mut heap = bare(4, 3);
+    heap.used = 11;
+    heap.field0[0] = 2;
+    heap.field0[3] = 1;
+    heap.roots = [1, 1, 0, 0];
+    State::opening(heap)
 }
 
-fn choice(text: &[u8]) -> Choice {
-    Choice {
-        process: digit(text, 0),
-        kind: digit(text, 1),
-        op: digit(text, 2),
-        x: digit(text, 3),
-        f: digit(text, 4),
-        y: digit(text, 5),
-    }
-}
-
-// The line of a choice: its step from where the process was, the answer's number, and where the process then is.
-fn line(rt: &impl Print, c: Choice, before: Process, no: u8, after: Process) -> io::Result<()> {
-    names::choice(rt, c)?;
-    names::step(rt, c, before)?;
-    print!(rt; ": {no} -> ")?;
-    names::place(rt, after)?;
-    println!(rt)
-}
-
-// One choice, its line, and the state after it.
+// One choice, its line (its step from where the process was, the answer's number, where the process then is), and the
+// state after it.
 fn told(rt: &impl Print, s: State, text: &[u8]) -> io::Result<State> {
     let c = choice(text);
-    let a = engine::step(s, c);
-    let after = a.state;
-    line(rt, c, s.process(c.process), a.no, after.process(c.process))?;
+    let step = Step(c, s.process(c.process));
+    let (no, after) = match engine::step(s, c) {
+        Ok(t) => (0, t),
+        Err(Refused { why, state }) => (u8::from(why), state),
+    };
+    let place = At(after.process(c.process));
+    println!(rt; "{} {step}: {no} -> {place}", Numbers(c))?;
     Ok(after)
 }
 
 // A line that starts with # is the title of a chapter.
-fn title(rt: &impl Print, text: &[u8]) -> io::Result<()> {
-    let k = rest(text);
-    if k <= text.len() {
-        rt.write_all(&text[..k])?;
-        println!(rt)?;
-    }
-    Ok(())
+fn title(rt: &impl Print, line: &[u8]) -> io::Result<()> {
+    rt.write_all(line.strip_suffix(b"\n").unwrap_or(line))?;
+    println!(rt)
 }
 
-// What stands first in the text: a title, a choice, or what is between them.
-fn turn(rt: &impl Print, s: State, text: &[u8]) -> io::Result<State> {
-    let b = byte(text, 0);
-    match b {
-        b'#' => {
-            title(rt, text)?;
+// A piece of the text: a title, a choice, or what is between them.
+fn turn(rt: &impl Print, s: State, piece: &[u8]) -> io::Result<State> {
+    match piece {
+        [b'#', ..] => {
+            title(rt, piece)?;
             Ok(s)
         }
-        b'0'..=b'9' => told(rt, s, text),
+        [b'0'..=b'9', ..] => told(rt, s, piece),
         _ => Ok(s),
     }
 }
 
-// How many bytes belong to the first.
+// How many bytes belong to what stands first in the text.
 fn more(text: &[u8]) -> usize {
-    let b = byte(text, 0);
-    match b {
-        b'#' => rest(text),
-        b'0'..=b'9' => 5,
+    match text {
+        [b'#', ..] => rest(text),
+        [b'0'..=b'9', ..] => 5,
         _ => 0,
     }
 }
 
 // All chapters, one after the other.
-fn run(rt: &impl Print, text: &[u8]) -> io::Result<()> {
-    let mut s = State::opening(heap());
-    let mut at = 0;
-    while at < text.len() {
-        let first = &text[at..];
-        s = turn(rt, s, first)?;
-        let k = more(first);
-        if text.len() - at <= k {
-            return Ok(());
-        }
-        at += k + 1;
-    }
-    Ok(())
-}
-
+// What the programs over pieces share is `Pieces`: a `for` of three lines is left.
 fn main(rt: HostRuntime) -> io::Result<()> {
     let mut text = Vec::new(rt.alloc());
     rt.reader().read_to_end(&mut text)?;
-    run(&rt, &text)
+    let mut s = opening();
+    for piece in Pieces::of(&text, more) {
+        s = turn(&rt, s, piece)?;
+    }
+    Ok(())
 }

@@ -1,17 +1,68 @@
-// The names of places, stages and operations, in document 01's words.
-use state::codes::{MarkStage, Place, RoundStage};
+// How a choice, a step and a place are written: the numbers of a choice, and document 01's words for the others.
+use state::codes::{MarkStage, Operation, Place, RoundStage};
 use state::{Choice, Process};
-use std::io;
+use std::fmt;
 
 // The six numbers of a choice.
-pub(crate) fn choice(rt: &impl Print, c: Choice) -> io::Result<()> {
-    print!(rt;
-        "{} {} {} {} {} {} ",
-        c.process, c.kind, c.op, c.x, c.f, c.y
-    )
+#[derive(Drop)]
+pub(crate) struct Numbers(pub(crate) Choice);
+
+// Whose step it is, and which: a commit, an operation at top, else the place.
+#[derive(Drop)]
+pub(crate) struct Step(pub(crate) Choice, pub(crate) Process);
+
+// Where a process is: its place, and the stage inside a mark or a round; elsewhere there is none.
+#[derive(Drop)]
+pub(crate) struct At(pub(crate) Process);
+
+impl fmt::Display for Numbers {
+    fn fmt<W: fmt::Write>(&self, f: &mut fmt::Formatter<W>) -> fmt::Result {
+        let c = self.0;
+        write!(
+            f,
+            "{} {} {} {} {} {}",
+            c.process, c.kind, c.op, c.x, c.f, c.y
+        )
+    }
 }
 
-fn mutator(place: u8) -> &'static str {
+impl fmt::Display for Step {
+    fn fmt<W: fmt::Write>(&self, f: &mut fmt::Formatter<W>) -> fmt::Result {
+        let Step(c, q) = *self;
+        match c.process {
+            0 => f.write_str("collector ")?,
+            p => write!(f, "mutator {p} ")?,
+        }
+        if c.kind == Choice::COMMIT {
+            f.write_str("commit")
+        } else if q.place == Place::TOP {
+            f.write_str(operation(c.op))
+        } else {
+            write!(f, "{}", At(q))
+        }
+    }
+}
+
+impl fmt::Display for At {
+    fn fmt<W: fmt::Write>(&self, f: &mut fmt::Formatter<W>) -> fmt::Result {
+        let q = self.0;
+        f.write_str(place(q.place))?;
+        match q.place {
+            Place::STORE_MARK_OLD | Place::STORE_MARK_Y | Place::ROOTS_MARK | Place::ROW7_MARK => {
+                write!(f, ", {}", mark(q.stage))
+            }
+            Place::ROW1_ROUND
+            | Place::ROW3_ROUND
+            | Place::ROW4_ROUND
+            | Place::ROW5_ROUND
+            | Place::ROW6_ROUND
+            | Place::ROW8_ROUND => write!(f, ", {}", round(q.stage)),
+            _ => Ok(()),
+        }
+    }
+}
+
+fn place(place: u8) -> &'static str {
     match place {
         Place::TOP => "top",
         Place::STORE_MARK_OLD => "store: mark the old",
@@ -24,12 +75,6 @@ fn mutator(place: u8) -> &'static str {
         Place::ROOTS_FINISH => "roots: finish",
         Place::WORK_FENCE => "work: fence",
         Place::WORK_FINISH => "work: finish",
-        _ => "?",
-    }
-}
-
-fn rows_1_to_5(place: u8) -> &'static str {
-    match place {
         Place::ROW1_ROUND => "row 1 round",
         Place::ROW2_READ => "row 2 read fM",
         Place::ROW2_WRITE => "row 2 write fM",
@@ -39,12 +84,6 @@ fn rows_1_to_5(place: u8) -> &'static str {
         Place::ROW5_PHASE => "row 5 write phase Mark",
         Place::ROW5_ALLOC => "row 5 write fA",
         Place::ROW5_ROUND => "row 5 round",
-        _ => "?",
-    }
-}
-
-fn rows_6_to_8(place: u8) -> &'static str {
-    match place {
         Place::ROW6_ROUND => "row 6 round",
         Place::ROW6_TAKE => "row 6 take",
         Place::ROW7_FIRST => "row 7 first read",
@@ -53,27 +92,11 @@ fn rows_6_to_8(place: u8) -> &'static str {
         Place::ROW7_DROP => "row 7 drop",
         Place::ROW8_ROUND => "row 8 round",
         Place::ROW8_TAKE => "row 8 take",
-        _ => "?",
-    }
-}
-
-fn rows_9_to_11(place: u8) -> &'static str {
-    match place {
         Place::ROW9_WRITE => "row 9 write phase Sweep",
         Place::ROW10_LOOK => "row 10 look",
         Place::ROW10_FREE => "row 10 free",
         Place::ROW11_WRITE => "row 11 write phase Idle",
         _ => "?",
-    }
-}
-
-fn collector(place: u8) -> &'static str {
-    if place <= Place::ROW5_ROUND {
-        rows_1_to_5(place)
-    } else if place <= Place::ROW8_TAKE {
-        rows_6_to_8(place)
-    } else {
-        rows_9_to_11(place)
     }
 }
 
@@ -102,54 +125,12 @@ fn round(stage: u8) -> &'static str {
 
 fn operation(op: u8) -> &'static str {
     match op {
-        0 => "allocate",
-        1 => "drop root",
-        2 => "read",
-        3 => "store",
-        4 => "fence",
-        5 => "answer",
+        Operation::ALLOCATE => "allocate",
+        Operation::DROP => "drop root",
+        Operation::READ => "read",
+        Operation::STORE => "store",
+        Operation::FENCE => "fence",
+        Operation::ANSWER => "answer",
         _ => "?",
-    }
-}
-
-// The stage inside a mark or a round; elsewhere there is none.
-fn stage(rt: &impl Print, q: Process) -> io::Result<()> {
-    let place = q.place;
-    match place {
-        Place::STORE_MARK_OLD | Place::STORE_MARK_Y | Place::ROOTS_MARK | Place::ROW7_MARK => {
-            print!(rt; ", {}", mark(q.stage))
-        }
-        Place::ROW1_ROUND
-        | Place::ROW3_ROUND
-        | Place::ROW4_ROUND
-        | Place::ROW5_ROUND
-        | Place::ROW6_ROUND
-        | Place::ROW8_ROUND => { print!(rt; ", {}", round(q.stage)) }
-        _ => Ok(()),
-    }
-}
-
-pub(crate) fn place(rt: &impl Print, q: Process) -> io::Result<()> {
-    if q.place <= Place::WORK_FINISH {
-        print!(rt; "{}", mutator(q.place))?;
-    } else {
-        print!(rt; "{}", collector(q.place))?;
-    }
-    stage(rt, q)
-}
-
-// Whose step it is, and which: a commit, an operation at top, else the place.
-pub(crate) fn step(rt: &impl Print, c: Choice, q: Process) -> io::Result<()> {
-    if c.process == 0 {
-        print!(rt; "collector ")?;
-    } else {
-        print!(rt; "mutator {} ", c.process)?;
-    }
-    if c.kind == Choice::COMMIT {
-        print!(rt; "commit")
-    } else if q.place == Place::TOP {
-        print!(rt; "{}", operation(c.op))
-    } else {
-        place(rt, q)
     }
 }

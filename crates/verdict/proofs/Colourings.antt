@@ -20,7 +20,7 @@ use Rattle.memory.specs.Memories.{used_of, mark_of, field_of}
 use Rattle.state.specs.declared.Process.{Process}
 use Rattle.state.specs.States.{no_process, process_of}
 use Rattle.reach.specs.Reach.{Names, first, second}
-use Rattle.reach.proofs.Folds.{through_from, through_keeps, through_has, Joined, inside, alone, joined_from, joined_keeps, joined_has, joined_none}
+use Rattle.reach.proofs.Folds.{fold_from, fold_keeps, fold_has, Joined, inside, alone, joined_from, joined_keeps, joined_has, joined_none}
 use Rattle.verdict.specs.Colours.{White, Grey, listed, gathered, greying, Black, BlackToWhite, white_of, with_greys_of, greys_of, black_of, names_white_of, black_names_white_of, black_to_white_of}
 use Rattle.verdict.specs.Statements.{WhiteExactly, GreyExactly, BlackExactly, BlackToWhiteExactly}
 use Rattle.verdict.proofs.Such.{such_from, such_has}
@@ -49,7 +49,7 @@ Greyed q c = Joined q.work q.grey c
 
 pub grey_exactly : GreyExactly
 unfolding greys_of
-grey_exactly s c l = (λ p. into (through_from with_greys_of Greyed no_process c (λ h q. joined_from c h q.work q.grey) s.system.work s.procs p), out)
+grey_exactly s c l = (λ p. into (fold_from with_greys_of Greyed no_process c (λ h q. joined_from c h q.work q.grey) s.system.work s.procs p), out)
   where
     of : (p : ℕ) → Greyed (process_of s p) c → Grey s c
     of p (inside q) = listed p q
@@ -60,11 +60,11 @@ grey_exactly s c l = (λ p. into (through_from with_greys_of Greyed no_process c
     into (inr q) = of q.0 q.1
 
     by : (p : ℕ) → Greyed (process_of s p) c → Member (greys_of s) c
-    by p q = through_has with_greys_of Greyed no_process c (λ h r. joined_keeps c h r.work r.grey) (λ h r. joined_has c l h r.work r.grey) (joined_none c) s.system.work s.procs p q
+    by p q = fold_has with_greys_of Greyed no_process c (λ h r. joined_keeps c h r.work r.grey) (λ h r. joined_has c l h r.work r.grey) (joined_none c) s.system.work s.procs p q
 
     out : Grey s c → Member (greys_of s) c
     out (listed p q) = by p (inside q)
-    out (gathered q) = through_keeps with_greys_of Greyed no_process c (λ h r. joined_keeps c h r.work r.grey) s.system.work s.procs q
+    out (gathered q) = fold_keeps with_greys_of Greyed no_process c (λ h r. joined_keeps c h r.work r.grey) s.system.work s.procs q
     out (greying p e q) = by p (alone e q)
 
 -- ---- black

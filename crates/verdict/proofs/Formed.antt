@@ -31,8 +31,7 @@ use Rattle.reach.specs.Statements.{Bounds}
 use Rattle.formed.specs.Fits.{MutatorAt, idle, mark_old, mark_y, write, roots_first, roots_rest, WellFormed}
 use Rattle.formed.specs.WellFormed.{well_formed_of}
 use Rattle.formed.proofs.Whole.{well_formed_lem}
-use Rattle.verdict.specs.declared.Finding.{Finding}
-use Rattle.verdict.specs.Judged.{is_malformed, found, Judged, loose, black_over_white, handshake, sound}
+use Rattle.verdict.specs.Judged.{Finding, is_malformed, found, Judged, loose, black_over_white, handshake, sound}
 use Rattle.verdict.specs.Findings.{Found, malformed, formed, finding_of, FormedBounded, FoundExactly, MalformedJudged, FormedJudged, FormedVerdicts}
 use Rattle.verdict.proofs.Verdicts.{judged_holds, judged_only, verdicts_exactly}
 

@@ -1,21 +1,25 @@
 -- The set of the numbers from 1 to n of which a test holds: `such_of`. Assumes nothing.
---     such_more           one number more of the loop that makes it
+--     such_turn           one number more of the loop that makes it
 --     such_from, such_has     its members
 use mathlib.Core.Path.{◌≡◌, ap, ◌∙◌}
 use mathlib.Core.Bool.{Bool, true, false}
 use mathlib.Core.Logic.{◌⊎◌, inl, inr}
-use Prim.Native.Nat.{ℕ, zero, suc, ◌+◌, ◌≤◌, ◌<◌}
+use Prim.Native.Nat.{ℕ, zero, suc, ◌-◌, ◌≤◌, ◌<◌}
 use native.Mathlib.Omega.{arith}
 use native.Mathlib.Decide.{ℕ_discrete}
-use Rattle.cells.specs.Sets.{max_set, no_cells, Member}
+use Rattle.cells.specs.Sets.{max_set, Member}
 use Rattle.cells.proofs.Bools.{split, not_both}
 use Rattle.cells.proofs.Members.{member_empty, in_add, add_same, add_keeps}
-use Rattle.reach.proofs.Closures.{counted_more}
 use Rattle.verdict.specs.Colours.{with_if_of, such_of}
 
 module _ (test : ℕ → Bool) where
-  pub such_more : {r t : ℕ} {b : Bool} (i : ℕ) → r ≡ such_of i test → b ≡ test (i + 1) → t ≡ with_if_of r (i + 1) b → t ≡ such_of (i + 1) test
-  such_more {r} i e q k = counted_more (λ set c. with_if_of set c (test c)) no_cells i e (k ∙ ap (with_if_of r (i + 1)) q)
+  -- a turn of the loop, which adds c where the test holds
+  pub such_turn : {r s : ℕ} {b : Bool} (c : ℕ) → 1 ≤ c → r ≡ such_of (c - 1) test → b ≡ test c → s ≡ with_if_of r c b → s ≡ such_of c test
+  such_turn zero l e q k = absurd (omega arith)
+  such_turn {r} {s} {b} (suc i) l e q k =
+      let p : suc i - 1 ≡ i = omega arith in
+      let f : r ≡ such_of i test = e ∙ ap (λ j. such_of j test) p in
+      rw (← q, ← f) k
 
   -- a number in the set is one of 1 to n of which the test holds
   pub such_from : (n c : ℕ) → Member (such_of n test) c → (c ≤ n) × (test c ≡ true)

@@ -20,10 +20,9 @@ use Rattle.state.specs.States.{mutators_of}
 use Rattle.reach.specs.Held.{held_of}
 use Rattle.reach.specs.Reach.{reached_of}
 use Rattle.reach.proofs.Reaches.{held_reached_exactly, reached_below}
-use Rattle.verdict.specs.declared.Finding.{Finding}
 use Rattle.verdict.specs.Colours.{BlackToWhite, black_to_white_of}
 use Rattle.verdict.specs.Table.{Broken, broken_of}
-use Rattle.verdict.specs.Judged.{is_sound, is_black_to_white, is_handshake, found, Loose, None, Least, Judged, loose, black_over_white, handshake, sound, loose_of, least_of, judged_of}
+use Rattle.verdict.specs.Judged.{Finding, is_sound, is_black_to_white, is_handshake, found, Loose, None, Least, Judged, loose, black_over_white, handshake, sound, loose_of, least_of, judged_of}
 use Rattle.verdict.specs.Statements.{Bounded, LooseExactly, JudgedExactly, Verdicts, VerdictsExactly}
 use Rattle.verdict.proofs.Colourings.{black_to_white_exactly}
 use Rattle.verdict.proofs.Tables.{broken_exactly}

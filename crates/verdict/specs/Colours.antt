@@ -1,7 +1,7 @@
 -- The colours of cells: "White: occupied, mark unequal to memory's fM. Grey: on any work list or being greyed. Black:
 -- occupied, not white, not grey." Assumes nothing.
-use Rattle.std.specs.Prelude.{◌≡◌, Bool, true, false, not, ℕ, ◌<◌}
-use Rattle.base.specs.Pick.{pick, through, same_bit}
+use Rattle.std.specs.Prelude.{◌≡◌, Bool, true, false, not, ℕ, ◌≤◌, ◌<◌, fold}
+use Rattle.base.specs.Pick.{pick, same_bit}
 use Rattle.cells.specs.Sets.{no_cells, member_of, Member, union_of, add_of}
 use Rattle.memory.specs.declared.Memory.{Memory}
 use Rattle.memory.specs.Memories.{used_of, mark_of, field_of}
@@ -43,7 +43,7 @@ abbrev pub with_greys_of : ℕ → Process → ℕ
 with_greys_of g q = add_of (union_of g q.work) q.grey
 
 unfoldable pub greys_of : State → ℕ
-greys_of s = through with_greys_of s.system.work s.procs
+greys_of s = fold with_greys_of s.system.work s.procs
 
 -- g is the set of the greys
 unfoldable pub black_of : Memory → ℕ → ℕ → Bool
@@ -62,6 +62,10 @@ with_if_of set c test = pick test (add_of set c) set
 -- the numbers from 1 to n of which the test holds
 abbrev pub such_of : ℕ → (ℕ → Bool) → ℕ
 such_of n test = counted n (λ set c. with_if_of set c (test c)) no_cells
+
+-- a test whose results are related by `post` answers as t of the numbers up to n
+abbrev pub ActsAsUpTo : (ℕ → Bool → Type 0) → ℕ → (ℕ → Bool) → Type 0
+ActsAsUpTo post n t = (c : ℕ) (r : Bool) → c ≤ n → post c r → r ≡ t c
 
 unfoldable pub black_to_white_of : State → ℕ
 black_to_white_of s = such_of s.memory.cells (black_names_white_of s.memory (greys_of s))

@@ -4,8 +4,7 @@ use Rattle.base.specs.Pick.{pick}
 use Rattle.state.specs.declared.State.{State}
 use Rattle.formed.specs.Fits.{WellFormed}
 use Rattle.formed.specs.WellFormed.{well_formed_of}
-use Rattle.verdict.specs.declared.Finding.{Finding}
-use Rattle.verdict.specs.Judged.{is_malformed, found, Judged, judged_of}
+use Rattle.verdict.specs.Judged.{Finding, is_malformed, found, Judged, judged_of}
 use Rattle.verdict.specs.Statements.{Bounded, Verdicts}
 
 -- "4: malformed state. .. 0 and 4 carry the number 0."

@@ -1,12 +1,14 @@
 -- The verdict of a well-formed state. Assumes nothing.
-use Rattle.std.specs.Prelude.{◌≡◌, false, ℕ, ◌≤◌}
+use Rattle.std.specs.Prelude.{◌≡◌, false, ℕ, ◌≤◌, Option}
+use Rattle.std.specs.declared.option.Option.TheVariants as option
 use Rattle.base.specs.Pick.{pick}
 use Rattle.cells.specs.Sets.{is_none, minus_of, first_of}
 use Rattle.memory.specs.Memories.{used_of}
 use Rattle.state.specs.declared.State.{State}
 use Rattle.reach.specs.Held.{Held, held_of}
 use Rattle.reach.specs.Reach.{Reach, reached_of}
-use Rattle.verdict.specs.declared.Finding.{Finding}
+use Rattle.verdict.specs.declared.Verdict.{Verdict}
+use Rattle.verdict.specs.declared.Verdict.TheVariants as verdict
 use Rattle.verdict.specs.Colours.{BlackToWhite, black_to_white_of}
 use Rattle.verdict.specs.Table.{Broken, broken_of}
 
@@ -26,8 +28,21 @@ is_handshake = 3
 abbrev pub is_malformed : ℕ
 is_malformed = 4
 
+-- a verdict and "the least such free cell (1), black cell (2) or mutator (3)"; the number is 0 with any other verdict
+pub record Finding : Type 0 where
+  pub verdict : ℕ
+  pub number : ℕ
+
 abbrev pub found : ℕ → ℕ → Finding
 found v n = record { verdict = v; number = n }
+
+-- document 01's numbers of each verdict
+abbrev pub told : Verdict → Finding
+told verdict.Sound = found is_sound 0
+told (verdict.Loose c) = found is_loose c
+told (verdict.BlackToWhite c) = found is_black_to_white c
+told (verdict.Handshake p) = found is_handshake p
+told verdict.Malformed = found is_malformed 0
 
 -- "1 loose: some cell reachable from held references is free."
 pub record Loose (s : State) (c : ℕ) : Type 0 where
@@ -59,6 +74,10 @@ loose_of s = minus_of (reached_of s.memory (held_of s)) s.memory.used
 
 abbrev pub least_of : ℕ → ℕ → Finding
 least_of v set = found v (first_of set)
+
+-- the least number of a set, if it has any
+abbrev pub least_in : ℕ → Option ℕ
+least_in set = pick (is_none set) option.None (option.Some (first_of set))
 
 unfoldable pub judged_of : State → Finding
 judged_of s =

@@ -8,10 +8,9 @@ use Rattle.state.specs.declared.System.{System}
 use Rattle.state.specs.declared.State.{State}
 use Rattle.state.specs.States.{mutators_of}
 use Rattle.reach.specs.Statements.{Within}
-use Rattle.verdict.specs.declared.Finding.{Finding}
 use Rattle.verdict.specs.Colours.{White, Grey, Black, BlackToWhite, white_of, greys_of, black_of, black_to_white_of}
 use Rattle.verdict.specs.Table.{Right, Broken, right_of, broken_of}
-use Rattle.verdict.specs.Judged.{is_sound, is_loose, is_black_to_white, is_handshake, Loose, None, Some, Least, Judged, loose_of, judged_of}
+use Rattle.verdict.specs.Judged.{Finding, is_sound, is_loose, is_black_to_white, is_handshake, Loose, None, Some, Least, Judged, loose_of, judged_of}
 
 -- the part of well-formed that the verdicts lean on: nothing names a cell above N, and at most `max_mutators` mutators
 pub record Bounded (s : State) : Type 0 where

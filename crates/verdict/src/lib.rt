@@ -6,80 +6,97 @@ pub mod colours;
 pub mod states;
 pub mod table;
 
-ghost use Rattle.std.specs.Prelude.{◌≡◌};
-ghost use Rattle.verdict.specs.Colours.{with_if_of};
-ghost use Rattle.verdict.specs.Judged.{loose_of, least_of, judged_of};
+ghost use Rattle.std.specs.Prelude.{◌≡◌, Bool, ℕ};
+ghost use Rattle.verdict.specs.Colours.{ActsAsUpTo, such_of};
+ghost use Rattle.verdict.specs.Judged.{least_in, loose_of, judged_of, told};
 
 use state::State;
 
-// A verdict and "the least such free cell (1), black cell (2) or mutator (3)"; the number is 0 with any other verdict.
-#[derive(Clone, Copy)]
-pub struct Finding {
-    pub verdict: u8,
-    pub number: u8,
+// What a state is judged, with "the least such free cell (1), black cell (2) or mutator (3)".
+#[derive(Clone, Copy, PartialEq, Eq)]
+pub enum Verdict {
+    Sound,
+    Loose(u8),
+    BlackToWhite(u8),
+    Handshake(u8),
+    Malformed,
 }
 
-// Document 01's numbers.
-impl Finding {
-    pub const SOUND: u8 = 0;
-
-    pub const LOOSE: u8 = 1;
-
-    pub const BLACK_TO_WHITE: u8 = 2;
-
-    pub const HANDSHAKE: u8 = 3;
-
-    pub const MALFORMED: u8 = 4;
-}
-
-// The set, with c where the test holds.
-fn with_if(set: u64, c: u8, test: bool) -> u64
-    ensures { result ≡ with_if_of set c test }
-{
-    if test {
-        return cells::add(set, c);
+impl Verdict {
+    // The cell or mutator; "0 and 4 carry the number 0".
+    pub fn least(self) -> u8
+        ensures { result ≡ (told self).number }
+    {
+        match self {
+            Verdict::Loose(c) | Verdict::BlackToWhite(c) => c,
+            Verdict::Handshake(p) => p,
+            Verdict::Sound | Verdict::Malformed => 0,
+        }
     }
-    set
+}
+
+// Document 01's number.
+impl From<Verdict> for u8 {
+    ghost from_gives = { λ v n. n ≡ (told v).verdict };
+
+    fn from(verdict: Verdict) -> u8 {
+        match verdict {
+            Verdict::Sound => 0,
+            Verdict::Loose(_) => 1,
+            Verdict::BlackToWhite(_) => 2,
+            Verdict::Handshake(_) => 3,
+            Verdict::Malformed => 4,
+        }
+    }
+}
+
+// The numbers 1 to n of which the test holds.
+#[tactic(auto, using(crate::proofs::Such::such_turn))]
+fn numbers_where<F: Fn(u8) -> bool>(n: u8, test: F) -> u64
+    requires { F.IsAlwaysCallable test }
+    ensures { (t : ℕ → Bool) → ActsAsUpTo (F.post test) n t → result ≡ such_of n t }
+{
+    let mut found = cells::empty();
+    for c in 1..=n {
+        if test(c) {
+            found = cells::add(found, c);
+        }
+    }
+    found
 }
 
 // "some cell reachable from held references is free": all such cells.
+#[tactic(auto, unfolding(crate::specs::Judged::loose_of))]
 fn loose(s: State) -> u64
     ensures { result ≡ loose_of s }
 {
-    let m = s.memory;
-    let held = reach::holds::held(s);
-    let reached = reach::reached(m, held);
-    cells::minus(reached, m.used)
+    let reached = reach::reached(s.memory, reach::holds::held(s));
+    cells::minus(reached, s.memory.used)
 }
 
-// The verdict, with the least number of the set that breaks it.
-fn least(verdict: u8, set: u64) -> Finding
-    ensures { result ≡ least_of verdict set }
+// The least number of the set, if it has any.
+fn least(set: u64) -> Option<u8>
+    ensures { result ≡ least_in set }
 {
-    Finding {
-        verdict,
-        number: cells::first(set),
+    if cells::is_empty(set) {
+        return None;
     }
+    Some(cells::first(set))
 }
 
 // "The least number from 1 to 3 that applies is given", of a state that is well formed.
-pub fn judged(s: State) -> Finding
-    ensures { result ≡ judged_of s }
+#[tactic(auto, unfolding(crate::specs::Judged::judged_of))]
+pub fn judged(s: State) -> Verdict
+    ensures { told result ≡ judged_of s }
 {
-    let loose = loose(s);
-    if !cells::is_empty(loose) {
-        return least(Finding::LOOSE, loose);
+    if let Some(c) = least(loose(s)) {
+        return Verdict::Loose(c);
     }
-    let black = colours::black_to_white(s);
-    if !cells::is_empty(black) {
-        return least(Finding::BLACK_TO_WHITE, black);
+    if let Some(c) = least(colours::black_to_white(s)) {
+        return Verdict::BlackToWhite(c);
     }
-    let broken = table::broken(s);
-    if !cells::is_empty(broken) {
-        return least(Finding::HANDSHAKE, broken);
+    if let Some(p) = least(table::broken(s)) {
+        return Verdict::Handshake(p);
     }
-    Finding {
-        verdict: Finding::SOUND,
-        number: 0,
-    }
+    Verdict::Sound
 }

@@ -3,14 +3,15 @@
 // occupied, not white, not grey." In the ground fM and every mark are 1; 1 names 2 and 3, and 2 names 4.
 use super::ground;
 use memory::Memory;
-use state::{State, System};
+use state::State;
 use std::io;
 
 // Memory with the cell c white: its mark is not fM.
 fn whitened(m: Memory, c: u8) -> Memory {
-    let mut n = m;
-    n.marks = cells::remove(n.marks, c);
-    n
+    Memory {
+        marks: cells::remove(m.marks, c),
+        ..m
+    }
 }
 
 // Cell 2 is white, and 1 names it.
@@ -79,15 +80,7 @@ pub(crate) fn greys(rt: &impl Print) -> io::Result<()> {
         white_two().with_process(0, collector),
     )?;
     let mut s = white_two();
-    let old = s.system;
-    let kind = old.kind;
-    let phase = old.phase;
-    let system = System {
-        kind,
-        phase,
-        work: 1,
-    };
-    s.system = system;
+    s.system.work = 1;
     ground::say(rt, "grey on the system's list", s)?;
     // "or being greyed": cell 1
     ground::say(

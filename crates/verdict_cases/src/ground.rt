@@ -1,8 +1,8 @@
 // The state that the cases start from, how it is changed, and how a case is written: a name, the verdict, the number.
 use buffers::{Entry, Store};
 use memory::Memory;
+use script::grounds::bare;
 use state::codes::{MarkStage, Place};
-use state::opening::Heap;
 use state::{Process, State};
 use std::io;
 
@@ -10,20 +10,13 @@ use std::io;
 // the second none.
 // Every mark is fM, so all four are black; nothing is white. Verdict 0.
 pub(crate) fn ground() -> State {
-    let mut field0 = [0; Memory::CELLS];
-    field0[0] = 2;
-    let mut field1 = [0; Memory::CELLS];
-    field1[0] = 3;
-    field1[1] = 4;
-    let roots = [1, 0, 0, 0];
-    State::opening(Heap {
-        cells: 6,
-        processes: 3,
-        used: 15,
-        field0,
-        field1,
-        roots,
-    })
+    let mut heap = bare(6, 3);
+    heap.used = 15;
+    heap.field0[0] = 2;
+    heap.field1[0] = 3;
+    heap.field1[1] = 4;
+    heap.roots = [1, 0, 0, 0];
+    State::opening(heap)
 }
 
 pub(crate) fn memory() -> Memory {
@@ -50,9 +43,7 @@ pub(crate) fn with_process(p: u8, q: Process) -> State {
 // The ground with a store of process p pending.
 pub(crate) fn with_store(p: u8, store: Store) -> State {
     let m = memory();
-    let done = m.write(p, Entry { store });
-    let after = done.memory;
-    with_memory(after)
+    with_memory(m.write(p, Entry { store }).unwrap_or(m))
 }
 
 // A mutator that is about to write y in field 0 of cell 1, and read old there: its honorary root.
@@ -77,8 +68,8 @@ pub(crate) fn greying(y: u8) -> Process {
 }
 
 pub(crate) fn show(rt: &impl Print, s: State) -> io::Result<()> {
-    let f = verdict::states::finding(s);
-    print!(rt; " {} {}", f.verdict, f.number)
+    let verdict = verdict::states::finding(s);
+    print!(rt; " {} {}", u8::from(verdict), verdict.least())
 }
 
 pub(crate) fn say(rt: &impl Print, name: &str, s: State) -> io::Result<()> {

@@ -2,22 +2,25 @@
 // both mutators on the line; mutator 2 a phase further; mutator 1 with the other in-step bit; mutator 1 with its flag
 // raised.
 use super::ground;
-use state::{Handshake, Part, RoundType, State, System};
-use std::io;
+use state::{Handshake, Part, Process, RoundType, State, System};
+use std::{fmt, io};
 
 // The ground with these hands, and each mutator with its part.
 fn shaking(kind: RoundType, system: Handshake, one: Part, two: Part) -> State {
     let mut s = ground::ground();
-    let system = System {
+    s.system = System {
         kind,
         phase: system,
         work: 0,
     };
-    s.system = system;
-    let mut first = s.process(1);
-    first.part = one;
-    let mut second = s.process(2);
-    second.part = two;
+    let first = Process {
+        part: one,
+        ..s.process(1)
+    };
+    let second = Process {
+        part: two,
+        ..s.process(2)
+    };
     s.with_process(1, first).with_process(2, second)
 }
 
@@ -29,9 +32,37 @@ fn part(raised: bool, in_step: bool, phase: Handshake) -> Part {
     }
 }
 
-fn line(
+// A line of the table, as it is named here: whether the mutator is in step, the type, and for no-op the system's phase.
+#[derive(Clone, Copy)]
+struct Line {
+    in_step: bool,
+    kind: RoundType,
+    system: Handshake,
+}
+
+impl fmt::Display for Line {
+    fn fmt<W: fmt::Write>(&self, f: &mut fmt::Formatter<W>) -> fmt::Result {
+        f.write_str(if self.in_step {
+            "in step"
+        } else {
+            "not in step"
+        })?;
+        f.write_str(match self.kind {
+            RoundType::Noop => match self.system {
+                Handshake::Idle => ", no-op, Idle",
+                Handshake::IdleInit => ", no-op, IdleInit",
+                Handshake::InitMark => ", no-op, InitMark",
+                Handshake::Mark => ", no-op, Mark",
+                Handshake::IdleMarkSweep => ", no-op, IdleMarkSweep",
+            },
+            RoundType::Roots => ", roots",
+            RoundType::Work => ", work",
+        })
+    }
+}
+
+fn judge(
     rt: &impl Print,
-    name: &str,
     in_step: bool,
     kind: RoundType,
     system: Handshake,
@@ -41,11 +72,15 @@ fn line(
     let further = part(false, in_step, mutator.next());
     let other = part(false, !in_step, mutator);
     let raised = part(true, in_step, mutator);
-    print!(rt; "{name}:")?;
-    ground::show(rt, shaking(kind, system, on, on))?;
-    ground::show(rt, shaking(kind, system, on, further))?;
-    ground::show(rt, shaking(kind, system, other, on))?;
-    ground::show(rt, shaking(kind, system, raised, on))?;
+    let line = Line {
+        in_step,
+        kind,
+        system,
+    };
+    print!(rt; "{line}:")?;
+    for (one, two) in [(on, on), (on, further), (other, on), (raised, on)] {
+        ground::show(rt, shaking(kind, system, one, two))?;
+    }
     println!(rt)
 }
 
@@ -54,117 +89,33 @@ fn line(
 // On the line 0; a phase further mutator 2 is out; not in step, mutator 1 is out, but for work, whose two lines have
 // the same phases; "A raised flag implies not in step."
 pub(crate) fn in_step(rt: &impl Print) -> io::Result<()> {
-    noop_in_step(rt)?;
-    line(
-        rt,
-        "in step, roots",
-        true,
-        RoundType::Roots,
-        Handshake::IdleMarkSweep,
-        Handshake::IdleMarkSweep,
-    )?;
-    line(
-        rt,
-        "in step, work",
-        true,
-        RoundType::Work,
-        Handshake::IdleMarkSweep,
-        Handshake::IdleMarkSweep,
-    )
-}
-
-// The no-op lines of those in step.
-fn noop_in_step(rt: &impl Print) -> io::Result<()> {
-    line(
-        rt,
-        "in step, no-op, Idle",
-        true,
-        RoundType::Noop,
+    for phase in [
         Handshake::Idle,
-        Handshake::Idle,
-    )?;
-    line(
-        rt,
-        "in step, no-op, IdleInit",
-        true,
-        RoundType::Noop,
         Handshake::IdleInit,
-        Handshake::IdleInit,
-    )?;
-    line(
-        rt,
-        "in step, no-op, InitMark",
-        true,
-        RoundType::Noop,
         Handshake::InitMark,
-        Handshake::InitMark,
-    )?;
-    line(
-        rt,
-        "in step, no-op, Mark",
-        true,
-        RoundType::Noop,
         Handshake::Mark,
-        Handshake::Mark,
-    )
+    ] {
+        judge(rt, true, RoundType::Noop, phase, phase)?;
+    }
+    let sweep = Handshake::IdleMarkSweep;
+    judge(rt, true, RoundType::Roots, sweep, sweep)?;
+    judge(rt, true, RoundType::Work, sweep, sweep)
 }
 
 // "Not in step (system, mutator): no-op with (Idle, IdleMarkSweep), (IdleInit, Idle), (InitMark, IdleInit), (Mark,
 // InitMark); roots with (IdleMarkSweep, Mark); work with both IdleMarkSweep." A raised flag is right here.
 pub(crate) fn not_in_step(rt: &impl Print) -> io::Result<()> {
-    noop_not_in_step(rt)?;
-    line(
-        rt,
-        "not in step, roots",
-        false,
-        RoundType::Roots,
-        Handshake::IdleMarkSweep,
-        Handshake::Mark,
-    )?;
-    line(
-        rt,
-        "not in step, work",
-        false,
-        RoundType::Work,
-        Handshake::IdleMarkSweep,
-        Handshake::IdleMarkSweep,
-    )
-}
-
-// The no-op lines of those not in step.
-fn noop_not_in_step(rt: &impl Print) -> io::Result<()> {
-    line(
-        rt,
-        "not in step, no-op, Idle",
-        false,
-        RoundType::Noop,
-        Handshake::Idle,
-        Handshake::IdleMarkSweep,
-    )?;
-    line(
-        rt,
-        "not in step, no-op, IdleInit",
-        false,
-        RoundType::Noop,
-        Handshake::IdleInit,
-        Handshake::Idle,
-    )?;
-    line(
-        rt,
-        "not in step, no-op, InitMark",
-        false,
-        RoundType::Noop,
-        Handshake::InitMark,
-        Handshake::IdleInit,
-    )?;
-    line(
-        rt,
-        "not in step, no-op, Mark",
-        false,
-        RoundType::Noop,
-        Handshake::Mark,
-        Handshake::InitMark,
-    )
+    for (system, mutator) in [
+        (Handshake::Idle, Handshake::IdleMarkSweep),
+        (Handshake::IdleInit, Handshake::Idle),
+        (Handshake::InitMark, Handshake::IdleInit),
+        (Handshake::Mark, Handshake::InitMark),
+    ] {
+        judge(rt, false, RoundType::Noop, system, mutator)?;
+    }
+    let sweep = Handshake::IdleMarkSweep;
+    judge(rt, false, RoundType::Roots, sweep, Handshake::Mark)?;
+    judge(rt, false, RoundType::Work, sweep, sweep)
 }
 
 // Phases that go together, of a type that does not have them: both mutators are out, and 1 is the least.

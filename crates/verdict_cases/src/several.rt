@@ -14,9 +14,7 @@ fn loosened(s: State) -> State {
 // Mutator 2 has its flag raised while it is in step.
 fn flagged(s: State) -> State {
     let mut q = s.process(2);
-    let mut part = q.part;
-    part.raised = true;
-    q.part = part;
+    q.part.raised = true;
     s.with_process(2, q)
 }
 

@@ -1,12 +1,14 @@
 -- `cells::minus` meets its contract. Assumes nothing.
-use mathlib.Core.Path.{refl}
-use lib.Bits.{and_le_l}
+use Prim.Native.Nat.{◌-◌, ◌^◌}
+use native.Mathlib.Omega.{arith}
+use lib.Bits.{and_comm}
+use Rattle.std.proofs.lemmas.Nat.{and-not}
 use Rattle.cells.specs.Sets.{minus_of}
 use Rattle.cells.proofs.minus.Goals as goal
 
-pub overflow_sub-result : goal.overflow_sub-result
-overflow_sub-result c = and_le_l c.args.s c.args.t
-
 pub returns : goal.returns
 unfolding minus_of
-returns c = refl
+returns c =
+    let s = c.args.s in
+    let t = c.args.t in
+    omega (arith, and-not 64 t s c.ranges.t.fits c.ranges.s.fits, and_comm s t, and_comm s (2 ^ 64 - 1 - t))

@@ -1,23 +1,13 @@
--- `script::rest` meets its contract: in the loop no end of a line stands before the place reached.
-use native.Mathlib.Omega.{arith}
-use borrow.Author.Rules.{rules}
-use Rattle.script.proofs.Rests.{rest_more, rest_found, rest_end}
+-- `script::rest` meets its contract.
+use Rattle.std.proofs.Common.{rules, tests, ◌≡◌, ◌∙◌}
+use Rattle.std.proofs.lemmas.Iterator.{YieldsList-from_slice}
+use Rattle.std.proofs.lemmas.Iterator.Search.{position_from_yields_List}
+use Rattle.std.specs.List.{position}
+use Rattle.script.proofs.Rests.{ends, rest_is}
 use Rattle.script.proofs.rest.Goals as goal
-
-pub loop-i-init : goal.loop-i-init
-loop-i-init c = (search rules, omega arith)
-
-pub returns-then-s-i-eq10 : goal.returns-then-s-i-eq10
-returns-then-s-i-eq10 c =
-    let l = c.loop-i in
-    rest_found c.args.s.now l.i l.invariant.1 c.loop-i-test.true c.if-s-i-eq10.true
-
-pub loop-i-preserved : goal.loop-i-preserved
-loop-i-preserved c =
-    let l = c.loop-i in
-    (search rules, rest_more c.args.s.now l.i l.invariant.1 c.loop-i-test.true c.if-s-i-eq10.false)
 
 pub returns : goal.returns
 returns c =
-    let l = c.loop-i in
-    rest_end c.args.s.now l.i l.invariant.1 c.loop-i-test.false
+    let s = c.args.s.now in
+    let e : c.position.result ≡ position ends s = position_from_yields_List ends _ _ _ c.position.ensures.ran (YieldsList-from_slice s cc) (λ x b q k. search (rules, tests)) in
+    rw e at c.unwrap_or.ensures ∙ rest_is s

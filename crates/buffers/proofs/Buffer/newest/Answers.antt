@@ -1,25 +1,20 @@
--- `buffers::Buffer::newest` meets its contract: after i turns of the loop it has found the newest among the first i
--- entries. Assumes nothing.
+-- `buffers::Buffer::newest` meets its contract. Assumes nothing.
 use native.Mathlib.Omega.{arith}
-use mathlib.Core.Path.{◌∙◌, ap}
+use lib.ListN.{length-take}
+use Rattle.std.proofs.lemmas.List.{get_or-take}
 use borrow.Author.Rules.{rules}
-use Rattle.base.proofs.Lists.{carried, take_clamped, through_more}
 use Rattle.buffers.specs.Stores.{no_entry}
-use Rattle.buffers.specs.Buffers.{max_stores, newest_of, newer_of}
-use Rattle.buffers.specs.declared.Newest.TheVariants.{Nothing}
+use Rattle.buffers.specs.Buffers.{pending_of}
+use Rattle.buffers.proofs.Nearest.{newest_found, newest_missed}
 use Rattle.buffers.proofs.Buffer.newest.Goals as goal
 
-pub loop-i-init : goal.loop-i-init
-loop-i-init c = search (rules, carried)
-
-pub loop-i-preserved : goal.loop-i-preserved
-loop-i-preserved c =
-    let l = c.loop-i in
-    let a = c.args in
-    (search rules, search rules, search rules, through_more (newer_of a.at) Nothing a.self.entries l.i no_entry (omega arith) l.invariant.3 c.newer-found.ensures)
+pub returns-in_err-place : goal.returns-in_err-place
+returns-in_err-place c =
+    rw (newest_missed c.args.at (pending_of c.args.self) c.in_err-place.ensures.none) (search rules)
 
 pub returns : goal.returns
 returns c =
-    let l = c.loop-i in
-    let a = c.args in
-    l.invariant.3 ∙ ap (newest_of a.at) (take_clamped a.self.len max_stores l.i a.self.entries l.invariant.0 (omega arith))
+    let b = c.args.self in
+    let i = c.in_ok-place.place in
+    let h = c.in_ok-place.ensures.found in
+    rw (newest_found c.args.at (pending_of b) i h, get_or-take b.len b.entries i no_entry (let t = h.there in omega (arith, length-take b.len b.entries)))

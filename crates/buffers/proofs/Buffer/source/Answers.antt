@@ -1,25 +1,11 @@
--- `buffers::Buffer::source` meets its contract: after i turns of the loop it has found the newest among the first i
--- entries. Assumes nothing.
-use native.Mathlib.Omega.{arith}
-use mathlib.Core.Path.{◌∙◌, ap}
-use borrow.Author.Rules.{rules}
-use Rattle.base.proofs.Lists.{carried, take_clamped}
-use Rattle.buffers.specs.Buffers.{max_stores}
-use Rattle.buffers.specs.Sources.{source_in}
-use Rattle.buffers.proofs.Nearest.{source_more}
+-- `buffers::Buffer::source` meets its contract. Assumes nothing.
+use mathlib.Core.Path.{sym}
+use Rattle.buffers.specs.Buffers.{pending_of}
+use Rattle.buffers.proofs.Nearest.{own_exactly, memory_exactly}
 use Rattle.buffers.proofs.Buffer.source.Goals as goal
 
-pub loop-i-init : goal.loop-i-init
-loop-i-init c = search (rules, carried)
+pub returns-in-Some : goal.returns-in-Some
+returns-in-Some c = sym ((own_exactly c.args.at (pending_of c.args.self) c.in-Some.place).1 c.in-Some.ensures.found)
 
-pub loop-i-preserved : goal.loop-i-preserved
-loop-i-preserved c =
-    let l = c.loop-i in
-    let a = c.args in
-    (search rules, search rules, search rules, source_more a.at a.self.entries l.i (omega arith) l.invariant.3 c.nearer-found.ensures)
-
-pub returns : goal.returns
-returns c =
-    let l = c.loop-i in
-    let a = c.args in
-    l.invariant.3 ∙ ap (source_in a.at) (take_clamped a.self.len max_stores l.i a.self.entries l.invariant.0 (omega arith))
+pub returns-in-None : goal.returns-in-None
+returns-in-None c = sym ((memory_exactly c.args.at (pending_of c.args.self)).1 c.in-None.ensures.none)

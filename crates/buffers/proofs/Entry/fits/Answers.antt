@@ -1,10 +1,9 @@
 -- `buffers::Entry::fits` meets its contract. Assumes nothing.
-use borrow.Author.Rules.{rules}
-use Rattle.base.proofs.Picks.{picks}
+use mathlib.Core.Path.{◌∙◌}
+use borrow.Author.Tests.{le-ltb}
+use Rattle.buffers.proofs.Wells.{unused_equal}
 use Rattle.buffers.proofs.Entry.fits.Goals as goal
 
-pub returns-then-i-len : goal.returns-then-i-len
-returns-then-i-len c = rw (← c.fits.ensures) (search (rules, picks, c.if-i-len.true) depth 9)
-
-pub returns : goal.returns
-returns c = rw (← c.is_empty.ensures) (search (rules, picks, c.if-i-len.false) depth 9)
+pub returns-else-i-len : goal.returns-else-i-len
+returns-else-i-len c =
+    c.eq.ensures ∙ unused_equal c.args.self c.empty.result c.empty.ensures ∙ rw (le-ltb c.args.i c.args.len c.if-i-len.false)

@@ -1,17 +1,13 @@
 -- `formed::processes::no_part` meets its contract.
-use borrow.Author.Rules.{rules}
-use Rattle.base.proofs.Picks.{picks}
+use Rattle.std.proofs.Common.{rules, Decides, ◌≡◌}
+use Rattle.std.proofs.lemmas.Bool.Decides.{same_from_decides}
+use Rattle.state.specs.States.{no_part}
 use Rattle.formed.specs.WellFormed.{no_part_of}
+use Rattle.formed.proofs.Agrees.{part_told, part_test}
 use Rattle.formed.proofs.processes.no_part.Goals as goal
 
-pub returns-then-part : goal.returns-then-part
-unfolding no_part_of
-returns-then-part c = search (rules, picks, c.if-part.true) depth 16
-
-pub returns-then-part-2 : goal.returns-then-part-2
-unfolding no_part_of
-returns-then-part-2 c = search (rules, picks, c.if-part-2.true, c.if-part.false) depth 16
-
 pub returns : goal.returns
-unfolding no_part_of
-returns c = rw (← c.number.ensures) (search (rules, picks, c.if-part-2.false, c.if-part.false) depth 16)
+returns c =
+    let p = c.args.part in
+    let d : Decides c.eq.result (p ≡ no_part) = (λ h. search rules, λ h. search rules) in
+    same_from_decides c.eq.result (no_part_of p) d (part_told p, part_test p)

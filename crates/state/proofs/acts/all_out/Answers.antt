@@ -1,7 +1,11 @@
-use mathlib.Core.Path.{refl}
-use Rattle.state.specs.Acts.{all_out_of}
+use native.Mathlib.Omega.{arith}
+use Rattle.state.specs.Acts.{out_at}
+use Rattle.state.proofs.Lists.{outs_more, outs_end}
 use Rattle.state.proofs.acts.all_out.Goals as goal
 
+pub loop-i-preserved : goal.loop-i-preserved
+unfolding out_at
+loop-i-preserved c = let l = c.loop-i in outs_more c.args.procs.now l.i l.invariant l.auto.i
+
 pub returns : goal.returns
-unfolding all_out_of
-returns c = rw (c.out_at-4.ensures, c.out_at-3.ensures, c.out_at-2.ensures, c.out_at.ensures) refl
+returns c = let l = c.loop-i in outs_end c.args.procs.now l.i l.invariant c.loop-i-test.false (l.auto.i-end (omega arith))

@@ -1,17 +1,18 @@
--- `runlog::run::Run::closed` meets its contract.
-use borrow.Author.Rules.{rules}
-use Rattle.base.proofs.Picks.{picks}
+use Rattle.std.proofs.Common.{refl}
+use borrow.Author.Tests.{ne_eqb}
+use Rattle.base.specs.Refusals.{stop_number}
+use Rattle.base.proofs.Errors.{stopped_by}
 use Rattle.runlog.specs.Runs.{closed_of}
 use Rattle.runlog.proofs.run.Run.closed.Goals as goal
 
-pub returns-then-left-eq0 : goal.returns-then-left-eq0
+pub returns-then-left-ne0 : goal.returns-then-left-ne0
 unfolding closed_of
-returns-then-left-eq0 c = search (rules, picks, c.if-left-eq0.true, c.if-self-eq0.true) depth 16
+returns-then-left-ne0 c = rw (c.in-Ended.is, ne_eqb c.args.left 0 c.if-left-ne0.true) refl
 
-pub returns-then-self-eq0 : goal.returns-then-self-eq0
+pub returns-else-left-ne0 : goal.returns-else-left-ne0
 unfolding closed_of
-returns-then-self-eq0 c = rw (← c.stopped.ensures) (search (rules, picks, c.if-left-eq0.false, c.if-self-eq0.true) depth 16)
+returns-else-left-ne0 c = rw (c.in-Ended.is, c.if-left-ne0.false) refl
 
-pub returns : goal.returns
+pub returns-in_default : goal.returns-in_default
 unfolding closed_of
-returns c = search (rules, picks, c.if-self-eq0.false) depth 16
+returns-in_default c = rw (ne_eqb (stop_number c.args.self.stop) 0 (stopped_by c.args.self.stop c.in_default.not-Ended)) refl
