@@ -13,7 +13,7 @@ use super::places;
 use base::Refusal;
 use buffers::{Buffer, Entry, Store};
 use memory::Memory;
-use script::grounds::{full, with_buffer};
+use script::grounds::full;
 use script::{Change, number};
 use state::{Handshake, Part, Process, State};
 
@@ -39,9 +39,14 @@ fn step(m: Memory, a: Change) -> Result<Memory, Refusal> {
     }
 }
 
-fn in_memory(m: Memory, a: Change) -> Memory {
+fn in_memory(mut m: Memory, a: Change) -> Memory {
     match a.letter {
-        b'e' => with_buffer(m, a.p, |_| full(Buffer::MAX)),
+        b'e' => {
+            if let Some(b) = m.buffers.get_mut(usize::from(a.p)) {
+                *b = full(Buffer::MAX);
+            }
+            m
+        }
         _ => step(m, a).unwrap_or(m),
     }
 }

@@ -18,7 +18,7 @@ use base::Refusal;
 use buffers::{Buffer, Entry, Phase, Store};
 use memory::Memory;
 use script::Change;
-use script::grounds::{with_buffer, with_entry};
+use script::grounds::with_entry;
 use std::io;
 
 // ---- steps and looks
@@ -106,7 +106,11 @@ fn poke(mut m: Memory, a: Change) -> Memory {
             bit: true,
         }),
         b'6' => return m.apply(a.field_store()),
-        b'7' | b'8' => return with_buffer(m, a.p, |b| in_buffer(b, a)),
+        b'7' | b'8' => {
+            if let Some(b) = m.buffers.get_mut(usize::from(a.p)) {
+                *b = in_buffer(*b, a);
+            }
+        }
         _ => m.lock = u16::from(a.v),
     }
     m

@@ -1,7 +1,5 @@
 // What the cases change of the ground that they start from: heaps, stores, buffers and the notes of a mark.
-ghost use Rattle.std.specs.Prelude.{◌≡◌, ◌<◌, ◌≤◌};
-ghost use Rattle.buffers.specs.declared.Buffer.{Buffer};
-ghost use Rattle.memory.specs.Memories.{max_processes, buffer_of, with_buffer as with_buffer_of};
+ghost use Rattle.std.specs.Prelude.{◌≡◌};
 ghost use Rattle.script.specs.Grounds.{field_store_of, mark_store_of, bare_heap, full_buffer, with_entry_of, marking_at};
 
 use super::Change;
@@ -68,19 +66,6 @@ pub fn with_entry(mut b: Buffer, place: usize, store: Store) -> Buffer
         b.entries[place] = Entry { store };
     }
     b
-}
-
-// Memory with the buffer of p changed; a number past the last has none.
-pub fn with_buffer<F: FnOnce(Buffer) -> Buffer>(mut m: Memory, p: u8, change: F) -> Memory
-    requires { F.IsAlwaysCallable change }
-    ensures within { p < max_processes → (b : Buffer) × F.post change (buffer_of m p) b × (result ≡ with_buffer_of m p b) }
-    ensures beyond { max_processes ≤ p → result ≡ m }
-{
-    let i = p as usize;
-    if i < Memory::PROCESSES {
-        m.buffers[i] = change(m.buffers[i]);
-    }
-    m
 }
 
 // The notes of a mark at a stage: the first look from the second, the noted fM from the third, the cell being greyed

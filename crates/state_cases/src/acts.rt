@@ -18,7 +18,7 @@
 use super::places;
 use buffers::{Buffer, Store};
 use memory::Memory;
-use script::grounds::{bare, full, with_buffer, with_entry};
+use script::grounds::{bare, full, with_entry};
 use script::{Change, number};
 use state::{Handshake, Part, Process, State};
 
@@ -99,7 +99,11 @@ fn in_memory(mut m: Memory, a: Change) -> Memory {
         b'u' => m.used = u64::from(n),
         b'k' => return m.apply(mark(n)),
         b'd' => return m.apply(field(n, a.p, a.v)),
-        _ => return with_buffer(m, a.p, |b| in_buffer(b, a)),
+        _ => {
+            if let Some(b) = m.buffers.get_mut(usize::from(a.p)) {
+                *b = in_buffer(*b, a);
+            }
+        }
     }
     m
 }
