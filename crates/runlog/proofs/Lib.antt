@@ -6,3 +6,4 @@ pub mod Cuts
 pub mod Ends
 pub mod Written
 pub mod Versions
+pub mod OnlyOne
