@@ -7,3 +7,4 @@ pub mod Ends
 pub mod Written
 pub mod Versions
 pub mod OnlyOne
+pub mod Apart
