@@ -7,3 +7,4 @@ pub mod Lists
 pub mod Answers
 pub mod Choices
 pub mod Alls
+pub mod Apart

@@ -1,3 +1,4 @@
 pub mod Pick
 pub mod Every
 pub mod Refusals
+pub mod Answers

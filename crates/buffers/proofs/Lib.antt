@@ -4,3 +4,4 @@ pub mod Newests
 pub mod Nearest
 pub mod Fifos
 pub mod Wells
+pub mod Apart

@@ -3,13 +3,20 @@
 --     step_refused, -unseen, -unmade, -taken     by the numbers: of the checks before memory, of what was seen, of
 --                                                what was made of memory
 --     step_read                                  and where the value came from that it was told
+--     let_in                                     a record that is let in names one of the state's processes
 use mathlib.Core.Path.{◌≡◌, refl, sym, ap, ◌∙◌}
-use Prim.Native.Nat.{ℕ}
-use borrow.Author.Tests.{ne_eqb}
+use mathlib.Core.Bool.{Bool, true, false}
+use Prim.Native.Nat.{ℕ, ◌<◌}
+use native.Mathlib.Omega.{arith}
+use native.Mathlib.Decide.{dec_lt}
+use lib.Dec.{leb}
+use borrow.Author.Tests.{ne_eqb, le-leb}
+use Rattle.base.specs.Pick.{pick}
+use Rattle.base.specs.Refusals.{by_no_process}
 use Rattle.memory.specs.declared.Memory.{Memory}
 use Rattle.memory.specs.Answers.{Done, Sight}
 use Rattle.memory.specs.declared.asks.Ask.{Ask}
-use Rattle.memory.specs.Memories.{taken}
+use Rattle.memory.specs.Memories.{max_processes, taken}
 use Rattle.memory.specs.Asks.{Told, sight_of, made_of, told_of}
 use Rattle.memory.proofs.Tellings.{told_refused, told_made}
 use Rattle.state.specs.declared.Process.{Process}
@@ -66,3 +73,15 @@ module _ (s : State) (c : Choice) where
       pub step_taken : (m : Memory) (g : Going) → made_of s.memory c.process a ≡ taken m → g ≡ go_of c (setting_of s c.x) v q → inner_of s c ≡ taken_of (went_of (with_memory s m) c.process g)
       unfolding answered_of
       step_taken m g e k = answered (record { no = 0; sight = v; memory = m }) (made ∙ rw e refl) ∙ rw k refl
+
+pub let_in : (m n : ℕ) (c : Choice) (q : Process) → refuses_of m n c q ≡ 0 → c.process < max_processes
+unfolding refuses_of
+let_in m n c q e = go (dec_lt c.process max_processes)
+  where
+    go : Dec (c.process < max_processes) → c.process < max_processes
+    go (yes h) = h
+    go (no h) = absurd (out (leb m c.process) (rw (le-leb max_processes c.process (omega (arith, h))) at e))
+      where
+        out : (b : Bool) → pick b by_no_process by_no_process ≡ 0 → ⊥
+        out true z = omega arith
+        out false z = omega arith

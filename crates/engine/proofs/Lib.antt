@@ -5,3 +5,4 @@ pub mod Theorems
 pub mod Runs
 pub mod Readings
 pub mod Unnumbered
+pub mod OnlyOne

@@ -1,13 +1,17 @@
 -- The theorems of demands 1 and 2, as statements. Their proofs stand in proofs/. Assumes nothing.
-use Rattle.std.specs.Prelude.{◌≡◌, ◌↔◌, ◌⊎◌, ℕ, ◌≤◌, ◌<◌}
+use Rattle.std.specs.Prelude.{◌≡◌, ◌↔◌, ◌⊎◌, ℕ, ◌≤◌, ◌<◌, Result, IfOk, OnErr}
+use Rattle.base.specs.declared.Refusal.{Refusal}
 use Rattle.base.specs.Refusals.{by_malformed, by_free}
+use Rattle.buffers.specs.declared.sources.Source.{Source}
+use Rattle.state.specs.declared as code
 use Rattle.state.specs.declared.State.{State}
 use Rattle.state.specs.declared.Choice.{Choice}
-use Rattle.state.specs.States.{Answer, taken_of, refused_of}
+use Rattle.state.specs.States.{Answer, taken_of, refused_of, answered}
 use Rattle.formed.specs.Fits.{WellFormed}
 use Rattle.model.specs.Reasons.{Reason}
 use Rattle.model.specs.Rows.{Row}
-use Rattle.engine.specs.Steps.{inner_of, step_of}
+use Rattle.engine.specs.Steps.{turned_as, inner_of, step_of}
+use Rattle.engine.specs.Readings.{read_by}
 
 -- "Checks run in number order": the first reason that holds is n
 pub record First (s : State) (c : Choice) (n : ℕ) : Type 0 where
@@ -49,3 +53,20 @@ InnerFormed = (s : State) (c : Choice) → WellFormed s → step_of s c ≡ inne
 -- only one answer meets the contract `r ≡ step_of s c`
 abbrev pub OneAnswer : Type 0
 OneAnswer = (s : State) (c : Choice) (a b : Answer) → a ≡ step_of s c → b ≡ step_of s c → a ≡ b
+
+-- and so of the code's answers: only one meets the contract of `step`, and only one that of `inner`
+abbrev pub OneResult : Type 0
+OneResult = (s : State) (c : Choice) (r t : Result State code.Refused.Refused) → answered r ≡ step_of s c → answered t ≡ step_of s c → r ≡ t
+
+abbrev pub OneInner : Type 0
+OneInner = (s : State) (c : Choice) (r t : Result State code.Refused.Refused) → answered r ≡ inner_of s c → answered t ≡ inner_of s c → r ≡ t
+
+-- the contract of `turn`, which is lent the state s, leaves the state n and answers r
+pub record TurnMet (s : State) (c : Choice) (n : State) (r : Result Source Refusal) : Type 0 where
+  pub answer : turned_as n r ≡ inner_of s c
+  pub kept : OnErr r (n ≡ s)
+  pub read : IfOk r (λ v. v ≡ read_by s c)
+
+-- only one state left and one answer meet it
+abbrev pub OneTurn : Type 0
+OneTurn = (s : State) (c : Choice) (n m : State) (r t : Result Source Refusal) → TurnMet s c n r → TurnMet s c m t → (n ≡ m) × (r ≡ t)

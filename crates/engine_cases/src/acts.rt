@@ -39,15 +39,19 @@ fn step(m: Memory, a: Change) -> Result<Memory, Refusal> {
     }
 }
 
-fn in_memory(mut m: Memory, a: Change) -> Memory {
+// In place: memory handed in and back would be copied whole for each change.
+fn in_memory(m: &mut Memory, a: Change) {
     match a.letter {
         b'e' => {
             if let Some(b) = m.buffers.get_mut(usize::from(a.p)) {
                 *b = full(Buffer::MAX);
             }
-            m
         }
-        _ => step(m, a).unwrap_or(m),
+        _ => {
+            if let Ok(made) = step(*m, a) {
+                *m = made;
+            }
+        }
     }
 }
 
@@ -79,12 +83,14 @@ pub(crate) fn changed(mut s: State, a: Change) -> State {
     if a.letter <= b'Z' {
         return s.with_process(a.p, in_process(s.process(a.p), a));
     }
-    s.memory = in_memory(s.memory, a);
+    in_memory(&mut s.memory, a);
     s
 }
 
 // Process p holds the lock.
 pub(crate) fn held(mut s: State, p: u8) -> State {
-    s.memory = s.memory.take_lock(p).unwrap_or(s.memory);
+    if let Ok(locked) = s.memory.take_lock(p) {
+        s.memory = locked;
+    }
     s
 }

@@ -7,3 +7,4 @@ pub mod Same
 pub mod Littles
 pub mod Written
 pub mod Exacts
+pub mod Apart

@@ -12,9 +12,8 @@ fn main(rt: HostRuntime) -> io::Result<()> {
     let mut log = Vec::new(rt.alloc());
     match rt.reader().take(MOST).read_to_end(&mut log) {
         Ok(_) => {
-            let o = runlog::judge(&log);
-            let (stop, verdict) = (u8::from(o.stop), u8::from(o.verdict));
-            println!(rt; "steps {} stop {stop} verdict {verdict}", o.steps)
+            let n = runlog::judge(&log).numbers();
+            println!(rt; "steps {} stop {} verdict {}", n.steps, n.stop, n.verdict)
         }
         Err(_) => rt.eprintln("judge: standard input can't be read"),
     }

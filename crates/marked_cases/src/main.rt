@@ -24,10 +24,11 @@ struct Numbers {
 
 impl From<Outcome> for Numbers {
     fn from(o: Outcome) -> Numbers {
+        let n = o.numbers();
         Numbers {
-            steps: o.steps,
-            stop: o.stop.into(),
-            verdict: o.verdict.into(),
+            steps: n.steps,
+            stop: n.stop,
+            verdict: n.verdict,
         }
     }
 }

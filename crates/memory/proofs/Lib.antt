@@ -15,3 +15,4 @@ pub mod Tellings
 pub mod Laws
 pub mod Origins
 pub mod SetterLaws
+pub mod Apart

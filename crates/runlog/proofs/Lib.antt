@@ -6,3 +6,5 @@ pub mod Cuts
 pub mod Ends
 pub mod Written
 pub mod Versions
+pub mod OnlyOne
+pub mod Apart

@@ -111,6 +111,10 @@ run_as k = record { state = k.state; steps = k.steps; stop = stop_number k.stop;
 abbrev pub outcome_as : code.Outcome.Outcome → Outcome
 outcome_as o = record { steps = o.steps; stop = stop_number o.stop; verdict = (told o.verdict).verdict; read = source_number o.read }
 
+-- and the numbers that the code makes of an outcome
+abbrev pub numbers_as : code.Numbers.Numbers → Outcome
+numbers_as n = record { steps = n.steps; stop = n.stop; verdict = n.verdict; read = n.read }
+
 -- a record's turn leaves the state t: whatever the count and the last read, the run from s goes on there, or stops
 abbrev pub Turned : State → Record → State → Result Source Stop → Type 0
 Turned s r t (Ok v) = (k : ℕ) (last : Source) → ended_of t (k + 1) 0 (read_after last v) ≡ turn_of (ended_of s k 0 last) r

@@ -10,20 +10,31 @@ use Rattle.state.specs.States.{taken_of}
 use Rattle.formed.specs.Fits.{HeapFits, WellFormed}
 use Rattle.engine.specs.Steps.{step_of}
 use Rattle.engine.specs.Runs as engine
-use Rattle.verdict.specs.Judged.{is_malformed, found, Judged}
+use Rattle.verdict.specs.Judged.{is_malformed, found, told, Judged}
 use Rattle.verdict.specs.Statements.{Verdicts}
 use Rattle.header.specs.Bytes.{byte_at}
 use Rattle.header.specs.Header.{max_log, version1, version2, size_of, heap_of}
 use Rattle.header.specs.Admitted.{Admitted}
 use Rattle.header.specs.Written.{bytes_of, SaidIn}
+use Rattle.runlog.specs.declared as code
 use Rattle.runlog.specs.Answers.{Outcome, Run}
 use Rattle.runlog.specs.Records.{record_size}
-use Rattle.runlog.specs.Runs.{turned_of, run_through, closed_of, whole_of, left_of, played_of, outcome_told_of, not_opened, judge_of}
+use Rattle.runlog.specs.Runs.{turned_of, run_through, closed_of, whole_of, left_of, played_of, outcome_told_of, not_opened, judge_of, found_of, origin_of, outcome_as}
 use Rattle.runlog.specs.Rule.{place_of, record_of, Taken, Judges}
 
 -- the outcome is the one of the log's rule, and there is no other
 abbrev pub OutcomeExactly : Type 0
 OutcomeExactly = (log : List ℕ) (o : Outcome) → (o ≡ judge_of log) ↔ Judges log o
+
+-- the contract of `judge`
+pub record JudgeMet (log : List ℕ) (r : code.Outcome.Outcome) : Type 0 where
+  pub numbers : outcome_as r ≡ judge_of log
+  pub verdict : told r.verdict ≡ found_of log
+  pub read : r.read ≡ origin_of log
+
+-- only one of the code's outcomes meets it
+abbrev pub OneOutcome : Type 0
+OneOutcome = (log : List ℕ) (r t : code.Outcome.Outcome) → JudgeMet log r → JudgeMet log t → r ≡ t
 
 -- a log that is not admitted has no run: "stop 12", with no step, verdict 4 and nothing read
 abbrev pub NotAdmitted : Type 0

@@ -5,7 +5,7 @@ mod record;
 mod run;
 
 ghost use Rattle.std.specs.Prelude.{◌≡◌};
-ghost use Rattle.runlog.specs.Runs.{run_as, outcome_as, outcome_told_of, judge_of, found_of, origin_of};
+ghost use Rattle.runlog.specs.Runs.{run_as, outcome_as, numbers_as, outcome_told_of, judge_of, found_of, origin_of};
 ghost use Rattle.verdict.specs.Judged.{told, judged_of};
 
 use base::Stop;
@@ -21,6 +21,29 @@ pub struct Outcome {
     pub stop: Stop,
     pub verdict: Verdict,
     pub read: Source,
+}
+
+// Its four numbers: those of the judge's line, and the fourth of the C bench.
+#[derive(Clone, Copy, PartialEq, Eq)]
+pub struct Numbers {
+    pub steps: u32,
+    pub stop: u8,
+    pub verdict: u8,
+    pub read: u8,
+}
+
+impl Outcome {
+    // Here and not in a program, of whose answers no contract speaks.
+    pub fn numbers(self) -> Numbers
+        ensures { numbers_as result ≡ outcome_as self }
+    {
+        Numbers {
+            steps: self.steps,
+            stop: u8::from(self.stop),
+            verdict: u8::from(self.verdict),
+            read: u8::from(self.read),
+        }
+    }
 }
 
 // What a run comes to.

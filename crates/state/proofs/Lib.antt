@@ -1,3 +1,4 @@
 pub mod OpeningLaws
 pub mod SetterLaws
 pub mod Lists
+pub mod Apart

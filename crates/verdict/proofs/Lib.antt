@@ -4,3 +4,4 @@ pub mod Tables
 pub mod Verdicts
 pub mod Formed
 pub mod Compute
+pub mod Apart
